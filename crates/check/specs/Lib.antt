@@ -1,0 +1,5 @@
+pub mod Causes
+pub mod Names
+pub mod Options
+pub mod Printed
+pub mod Words

@@ -1,0 +1,3 @@
+pub mod Suiting
+pub mod Faults
+pub mod Judging

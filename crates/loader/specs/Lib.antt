@@ -1,0 +1,3 @@
+pub mod Target
+pub mod Verdict
+pub mod Law

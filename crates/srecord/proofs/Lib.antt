@@ -1,0 +1,10 @@
+pub mod Pairs
+pub mod Lines
+pub mod Texts
+pub mod Shapes
+pub mod Firsts
+pub mod Arrivals
+pub mod Writing
+pub mod Splitting
+pub mod Files
+pub mod Worked
