@@ -49,7 +49,10 @@ def main():
         name = path.as_posix()
         if path.suffix == ".antt":
             old = path.read_text()
-            new = respelled(respelled(old, LEMMAS[name]) if name in LEMMAS else old, ROWS)
+            lemmas = LEMMAS.get(name, {})
+            # A second run finds them respelled.
+            done = any(it in old for it in lemmas.values())
+            new = respelled(respelled(old, lemmas) if lemmas and not done else old, ROWS)
         elif path.suffix in (".rt", ".edit"):
             old = path.read_text()
             new = in_code(old)

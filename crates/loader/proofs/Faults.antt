@@ -17,7 +17,7 @@ use Rattle.srecord.specs.Text.{lines_of}
 use Rattle.loader.specs.declared.file.Reason.{Reason}
 use Rattle.loader.specs.declared.file.Reason.TheVariants.{File, NotRising, NotWhole}
 use Rattle.loader.specs.declared.file.Refusal.{Refusal}
-use Rattle.loader.specs.Verdict.{suits, suits_from, refused_at, at_last, goes_on_lem}
+use Rattle.loader.specs.Verdict.{suits, suits_from, refused_at, at_last, goes_on}
 use Rattle.loader.specs.Law.{contents_of, said_by, is_record, is_end, closes, has_data, any_of, reach_of, furthest, address_fault, place_fault, fault_from, fault_at, Faultless, NamesFirst}
 use Rattle.loader.proofs.Suiting.{suits_on}
 
@@ -155,7 +155,7 @@ module _ (w : ℕ) (all : List (List ℕ)) where
           rest (before ++ l ∷ []) (n + 1) (cs ++ c ∷ []) q j d b (goes_on_lem u c h (fault c (Ok q) o ∙ f)) (seen_push s c q j d b o x y z)
 
       -- a data line in its place, by whether it is empty, fills whole addresses and starts too low
-      by_data : (a : ℕ) (ds : List ℕ) (q : Phase) (empty whole low : Bool) → line_of l ≡ Ok (record_at a ds) → follow p k (record_at a ds) ≡ Ok q → eqb (length ds / 2) 0 ≡ empty → ltb a e ≡ low → address_fault w cs a (length ds / 2) ≡ cond empty None (cond whole (cond low (Some NotRising) None) (Some NotWhole)) → Means w all (cond empty (suits_on w e any (coming_from q (k + 1) (n + 1) ls)) (goes_on_lem (λ d. suits_on w d true (coming_from q (k + 1) (n + 1) ls)) (n + 1) (cond whole (cond low (Err NotRising) (Ok (a + length ds / 2 / w))) (Err NotWhole))))
+      by_data : (a : ℕ) (ds : List ℕ) (q : Phase) (empty whole low : Bool) → line_of l ≡ Ok (record_at a ds) → follow p k (record_at a ds) ≡ Ok q → eqb (length ds / 2) 0 ≡ empty → ltb a e ≡ low → address_fault w cs a (length ds / 2) ≡ cond empty None (cond whole (cond low (Some NotRising) None) (Some NotWhole)) → Means w all (cond empty (suits_on w e any (coming_from q (k + 1) (n + 1) ls)) (goes_on (λ d. suits_on w d true (coming_from q (k + 1) (n + 1) ls)) (n + 1) (cond whole (cond low (Err NotRising) (Ok (a + length ds / 2 / w))) (Err NotWhole))))
       by_data a ds q true whole low h o x y f = next (record_at a ds) q (k + 1) e any h o f refl (grind (arith, nat_tests)) (grind (arith, nat_tests))
       by_data a ds q false false low h o x y f = misplaced (record_at a ds) (Ok q) NotWhole h o f
       by_data a ds q false true true h o x y f = misplaced (record_at a ds) (Ok q) NotRising h o f

@@ -12,7 +12,7 @@ use Rattle.srecord.specs.declared.line.Fault.TheVariants.{Shape, Checksum}
 use Rattle.srecord.specs.declared.line.Form.{Form}
 use Rattle.srecord.specs.declared.line.Kind.{Kind}
 use Rattle.srecord.specs.declared.line.Kind.TheVariants.{Header, Data, Count, End}
-use Rattle.srecord.specs.Hex.{digit_value_lem, byte_from, in_front, bytes_of, number}
+use Rattle.srecord.specs.Hex.{digit_value, byte_from, in_front, bytes_of, number}
 use Rattle.srecord.specs.Line.{Content, form_of, carries_data, count_fits, sum_fits, says, data_digits, line_of}
 use Rattle.srecord.specs.File.{Digit, IsType, MayCarry, WritesBytes, ReadsLine, SaysEntry, Entry, body_of, count_of, checksum_of, IsEntry, WritesWith, WritesLine}
 use Rattle.srecord.proofs.Pairs.{byte_from-some, mapped_below, digit-small, bytes-uncons, bytes-odd, bytes-nil, bytes_small, bytes_drop, bytes_take}
@@ -21,11 +21,11 @@ use Rattle.srecord.proofs.Shapes.{ShapedBy, Shaped, Judged, shaped, shaped_line,
 -- ---- digits and pairs
 
 -- a digit has the value that it is written for
-digit_value_lem : (d c : ℕ) → Digit d c → digit_value_lem c ≡ Some d
+digit_value_lem : (d c : ℕ) → Digit d c → digit_value c ≡ Some d
 digit_value_lem d c (inl h) = grind (arith, nat_tests)
 digit_value_lem d c (inr h) = grind (arith, nat_tests)
 
-value_digit : (c : ℕ) → IfSome (digit_value_lem c) (λ d. Digit d c)
+value_digit : (c : ℕ) → IfSome (digit_value c) (λ d. Digit d c)
 value_digit c = go (leb 48 c && leb c 57) (leb 65 c && leb c 70) (leb 97 c && leb c 102) refl refl refl
   where
     between : (a b : ℕ) → (leb a c && leb c b) ≡ true → (a ≤ c) × (c ≤ b)
@@ -55,7 +55,7 @@ bytes-writes [] bs e = subst (λ (l : List ℕ). WritesBytes l []) (sym (bytes-n
 bytes-writes (x ∷ []) bs e = absurd (bytes-odd x bs e)
 bytes-writes (x ∷ y ∷ cs) bs e =
     let p = bytes-uncons x y cs bs e in
-    let q = byte_from-some (digit_value_lem x) (digit_value_lem y) p.0 p.2 in
+    let q = byte_from-some (digit_value x) (digit_value y) p.0 p.2 in
     let high = MatchOption-at_some (Unit {0}) (λ d. Digit d x) q.0 q.2 (value_digit x) in
     let low = MatchOption-at_some (Unit {0}) (λ d. Digit d y) q.1 q.3 (value_digit y) in
     let small-high = subst (mapped_below 16) q.2 (digit-small x) in

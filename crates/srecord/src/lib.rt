@@ -1,3 +1,5 @@
+#![tactic(auto)]
+
 // Motorola S-record files: lines, and a reader that hands out the data records of a text.
 mod bytes;
 mod examples;
