@@ -1,3 +1,5 @@
+#![tactic(auto)]
+
 // The file check and the CRC for callers in C and in Rust.
 ghost use Rattle.std.specs.Prelude.{◌≡◌};
 ghost use Rattle.loader.specs.Verdict.{outcome_of, verdict};

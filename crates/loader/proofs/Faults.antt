@@ -1,6 +1,6 @@
 -- What a verdict on a text says of its lines: a refusal names the first fault, and of a text that is
 -- accepted no line has one. Assumes nothing.
-use Rattle.std.proofs.Common.{◌≡◌, ℕ, ◌+◌, ◌/◌, ◌%◌, max, Bool, true, false, cond, not, ◌||◌, eqb, ltb, List, [], ◌∷◌, ◌++◌, length, get_or, take, Some, None, Ok, Err, count_by, Option, Result, sym, refl, ap, ◌∙◌, subst, inl, inr, add-zero, arith, below_none, below_more}
+use Rattle.std.proofs.Common.{◌≡◌, ℕ, ◌+◌, ◌/◌, ◌%◌, max, Bool, true, false, cond, not, ◌||◌, eqb, ltb, List, [], ◌∷◌, ◌++◌, length, Some, None, Ok, Err, count_by, Option, Result, sym, refl, ap, ◌∙◌, subst, inl, inr, add-zero, arith, below_none, below_more}
 use mathlib.Core.Bool.{or-false}
 use native.Mathlib.Nat.{max-zero}
 use Rattle.std.proofs.lemmas.List.{append-nil, append_assoc, length_push, length-append, take_at, get_or_at}

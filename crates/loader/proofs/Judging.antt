@@ -1,5 +1,5 @@
 -- What a verdict means, from the laws of the reader and of the check. Assumes nothing.
-use Rattle.std.proofs.Common.{◌≡◌, ℕ, ◌+◌, ◌/◌, ◌%◌, ◌<◌, ◌≤◌, Bool, true, false, cond, ◌&&◌, ◌||◌, eqb, ltb, leb, ◌⊎◌, List, [], ◌∷◌, length, Some, None, Ok, Err, Option, Result, sym, refl, ap, ◌∙◌, subst, inl, inr, ⊎_elim, arith, MatchOption}
+use Rattle.std.proofs.Common.{◌≡◌, ℕ, ◌+◌, ◌/◌, ◌%◌, ◌≤◌, Bool, true, false, cond, ◌&&◌, ◌||◌, eqb, ltb, leb, ◌⊎◌, List, [], ◌∷◌, length, Some, None, Ok, Err, Option, Result, sym, refl, ap, ◌∙◌, subst, inl, inr, ⊎_elim, arith, MatchOption}
 use Rattle.std.specs.Option.{option_to_list}
 use Rattle.std.specs.List.{AllByRecursion as All}
 use Rattle.std.proofs.ByRecursion.{All-weaker, All-from_get_or}
@@ -7,7 +7,7 @@ use Rattle.std.proofs.lemmas.Option.{MatchOption-at_some, MatchOption-at_none}
 use Rattle.std.proofs.lemmas.Bool.{true≢false, and_parts, and_from, leb-true, le-leb, eqb-true, eqb-false, ltb-true, ltb-false, eq-eqb, ne_eqb, le-ltb, cond-true, cond-false}
 use Rattle.srecord.specs.declared.FaultAt.{FaultAt}
 use Rattle.srecord.specs.File.{Entry, File, WritesFile, Hands, HandsAll, HandsFile}
-use Rattle.srecord.specs.Reading.{Handed, Coming, coming_of}
+use Rattle.srecord.specs.Reading.{Handed, coming_of}
 use Rattle.srecord.proofs.Files.{file-sound, file-complete}
 use Rattle.srecord.proofs.Pairs.{length-bytes, decoded-bytes}
 use Rattle.loader.specs.declared.file.Reason.{Reason}

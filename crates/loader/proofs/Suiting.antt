@@ -1,11 +1,11 @@
 -- Laws of whether records suit a target. Assumes nothing.
-use Rattle.std.proofs.Common.{◌≡◌, ℕ, Bool, true, false, cond, eqb, List, [], ◌∷◌, Some, None, Ok, Err, Option, Result, sym, refl, ap, ◌∙◌}
+use Rattle.std.proofs.Common.{◌≡◌, ℕ, Bool, true, cond, eqb, List, [], ◌∷◌, Some, None, Ok, Err, Option, Result, refl, ap, ◌∙◌}
 use Rattle.std.proofs.lemmas.Bool.{cond-true, cond-false, eq-eqb, ne_eqb}
 use Rattle.srecord.specs.declared.FaultAt.{FaultAt}
 use Rattle.srecord.specs.Reading.{Handed, Coming, next_from, next_of, rest_of, tail_of}
 use Rattle.loader.specs.declared.file.Reason.{Reason}
 use Rattle.loader.specs.declared.file.Refusal.{Refusal}
-use Rattle.loader.specs.Verdict.{byte_count, end_after, goes_on, at_last, suits_from, refused_at}
+use Rattle.loader.specs.Verdict.{byte_count, end_after, goes_on, at_last, suits_from}
 
 -- the verdict on what is to come
 abbrev pub suits_on : ℕ → ℕ → Bool → Coming → Result (Unit {0}) Refusal

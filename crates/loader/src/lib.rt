@@ -1,3 +1,5 @@
+#![tactic(auto)]
+
 // Feeding a firmware file to a bootloader: for now, whether a file suits its target.
 mod file;
 #[cfg(test)]

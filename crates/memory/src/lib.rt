@@ -1,3 +1,5 @@
+#![tactic(auto)]
+
 // Memory parts over one meaning: flash, EEPROM and lane crossing; their CRC and seal; and actions on a part.
 mod bytes;
 mod crc;

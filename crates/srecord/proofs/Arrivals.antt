@@ -1,5 +1,5 @@
 -- Laws of what is to come of a text. Assumes nothing.
-use Rattle.std.proofs.Common.{◌≡◌, ℕ, ◌+◌, List, [], ◌∷◌, Some, None, Ok, Err, Option, Result, sym, refl, ap, ◌∙◌, Bor}
+use Rattle.std.proofs.Common.{◌≡◌, ℕ, ◌+◌, List, [], ◌∷◌, Some, Ok, Err, Option, sym, refl, ap, ◌∙◌, Bor}
 use Rattle.srecord.specs.declared.line.Fault.{Fault}
 use Rattle.srecord.specs.declared.line.Fault.TheVariants.{NoEnd}
 use Rattle.srecord.specs.declared.line.Line.{Line}
@@ -8,7 +8,7 @@ use Rattle.srecord.specs.declared.reader.Phase.{Phase}
 use Rattle.srecord.specs.declared.reader.Phase.TheVariants.{Start, Body, Counted, Ended}
 use Rattle.srecord.specs.declared.reader.FaultAt.{FaultAt}
 use Rattle.srecord.specs.Line.{Content, record_at, line_of, content_of}
-use Rattle.srecord.specs.Reading.{next_of, rest_of, Step, stop, pass, hand, step_to, step_of, follow, Coming, Handed, stopped, handing, at_last, leads_to, coming_from}
+use Rattle.srecord.specs.Reading.{next_of, rest_of, Step, stop, pass, hand, step_to, step_of, follow, Coming, stopped, handing, at_last, leads_to, coming_from}
 use Rattle.srecord.specs.Text.{lines_of}
 
 module _ (p : Phase) (k n : ℕ) (l : List ℕ) (ls : List (List ℕ)) where

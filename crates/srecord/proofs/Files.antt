@@ -12,14 +12,13 @@ use Rattle.srecord.specs.declared.line.Fault.{Fault}
 use Rattle.srecord.specs.declared.line.Fault.TheVariants as fault
 use Rattle.srecord.specs.declared.line.Kind.{Kind}
 use Rattle.srecord.specs.declared.line.Kind.TheVariants.{Header, Data, Count, End}
-use Rattle.srecord.specs.declared.reader.FaultAt.{FaultAt}
 use Rattle.srecord.specs.declared.reader.Phase.{Phase}
 use Rattle.srecord.specs.declared.reader.Phase.TheVariants.{Start, Body, Counted, Ended}
-use Rattle.srecord.specs.File.{Entry, IsEntry, WritesLine, SaysEntry, File, IsFile, entries, WritesFile, Hands, HandsAll, HandsFile}
+use Rattle.srecord.specs.File.{Entry, IsEntry, WritesLine, SaysEntry, File, IsFile, entries, WritesFile, HandsAll, HandsFile}
 use Rattle.srecord.specs.Bytes.{decoded}
 use Rattle.srecord.specs.Hex.{bytes_of, number}
 use Rattle.srecord.specs.Line.{Content, form_of, header, record_at, count_is, end, says, line_of}
-use Rattle.srecord.specs.Reading.{pass, at_end, Coming, Handed, stopped, handing, step_of, step_to, follow, leads_to, coming_from, coming_of}
+use Rattle.srecord.specs.Reading.{pass, at_end, Coming, Handed, stopped, step_of, step_to, leads_to, coming_from, coming_of}
 use Rattle.srecord.specs.Text.{lines_of}
 use Rattle.srecord.proofs.Arrivals.{coming_step, coming_fault, coming_handed, coming-nil}
 use Rattle.srecord.proofs.Pairs.{none-some, length-bytes, decoded-short}

@@ -1,16 +1,15 @@
 -- Laws of how a line is read. Assumes nothing.
-use Rattle.std.proofs.Common.{◌≡◌, ℕ, zero, suc, ◌+◌, ◌-◌, ◌*◌, ◌%◌, ◌<◌, ◌≤◌, Bool, true, false, cond, ◌&&◌, ◌||◌, eqb, ltb, List, [], ◌∷◌, length, get_or, take, drop, IfSome, Some, None, Ok, Err, Option, Result, sym, refl, ap, ◌∙◌, subst, ⊎_elim, arith}
+use Rattle.std.proofs.Common.{◌≡◌, ℕ, ◌+◌, ◌-◌, ◌*◌, ◌<◌, ◌≤◌, Bool, true, false, cond, ◌&&◌, ◌||◌, eqb, ltb, List, [], ◌∷◌, length, get_or, take, drop, IfSome, Some, None, Ok, Err, Option, sym, refl, ap, ◌∙◌, subst, ⊎_elim, arith}
 use Rattle.std.specs.Option.{option_map}
 use Rattle.std.proofs.lemmas.List.{take_rest, length-drop}
 use Rattle.std.proofs.lemmas.Bool.{eq-eqb, ne_eqb, and_parts, cases_eq, cond-true, cond-false}
 use Rattle.std.proofs.lemmas.Option.{MatchOption-at_some}
 use Rattle.std.proofs.lemmas.Bool.Decides.{nat_tests}
-use Rattle.srecord.specs.declared.line.Fault.{Fault}
 use Rattle.srecord.specs.declared.line.Fault.TheVariants.{Shape, Checksum}
 use Rattle.srecord.specs.declared.line.Form.{Form}
 use Rattle.srecord.specs.Hex.{pair_value, in_front, bytes_of, number}
-use Rattle.srecord.specs.Line.{Content, carries_data, form_of, count_fits, count_for, count_in, sum_fits, says, data_digits, line_from, spelled, typed, line_of}
-use Rattle.srecord.proofs.Pairs.{none-some, mapped_below, pair_small, bytes-uncons, bytes-odd, bytes-nil, bytes_drop, bytes_take, length-bytes}
+use Rattle.srecord.specs.Line.{carries_data, form_of, count_fits, count_for, count_in, sum_fits, says, data_digits, spelled, typed, line_of}
+use Rattle.srecord.proofs.Pairs.{none-some, mapped_below, pair_small, bytes-uncons, bytes_drop, bytes_take, length-bytes}
 
 -- the digits of a line behind its mark and type, as a slice pattern leaves them
 abbrev pub digits_of : List ℕ → List ℕ

@@ -14,7 +14,7 @@ use Rattle.srecord.specs.declared.line.Kind.{Kind}
 use Rattle.srecord.specs.declared.line.Kind.TheVariants.{Header, Data, Count, End}
 use Rattle.srecord.specs.Hex.{digit_value, byte_from, in_front, bytes_of, number}
 use Rattle.srecord.specs.Line.{Content, form_of, carries_data, count_fits, sum_fits, says, data_digits, line_of}
-use Rattle.srecord.specs.File.{Digit, IsType, MayCarry, WritesBytes, ReadsLine, SaysEntry, Entry, body_of, count_of, checksum_of, IsEntry, WritesWith, WritesLine}
+use Rattle.srecord.specs.File.{Digit, IsType, MayCarry, WritesBytes, ReadsLine, Entry, body_of, count_of, checksum_of, IsEntry, WritesWith, WritesLine}
 use Rattle.srecord.proofs.Pairs.{byte_from-some, mapped_below, digit-small, bytes-uncons, bytes-odd, bytes-nil, bytes_small, bytes_drop, bytes_take}
 use Rattle.srecord.proofs.Shapes.{ShapedBy, Shaped, Judged, shaped, shaped_line, ok_shaped, err_ok}
 

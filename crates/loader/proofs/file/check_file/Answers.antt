@@ -5,4 +5,4 @@ use Rattle.loader.proofs.file.check_file.Goals as goal
 
 pub returns : goal.returns
 returns c =
-    record { answer = c.check-text.ensures; law = subst (Judges c.args.text.now c.args.target c.args.size) (sym c.check-text.ensures) (verdict_judges c.args.text.now c.args.target c.args.size) }
+    record { answer = c.check_text.ensures; law = subst (Judges c.args.text.now c.args.target c.args.size) (sym c.check_text.ensures) (verdict_judges c.args.text.now c.args.target c.args.size) }

@@ -5,4 +5,4 @@ use Rattle.srecord.proofs.line.read_line.Goals as goal
 
 pub returns : goal.returns
 returns c =
-    record { answer = c.parse-line.ensures; law = subst (ReadsLine c.args.line.now) (sym c.parse-line.ensures) (reads-line c.args.line.now) }
+    record { answer = c.parse_line.ensures; law = subst (ReadsLine c.args.line.now) (sym c.parse_line.ensures) (reads-line c.args.line.now) }

@@ -2,8 +2,8 @@ use Rattle.std.proofs.Common.{sym}
 use Rattle.srecord.proofs.Firsts.{first_read, first-misshapen, first-fault}
 use Rattle.srecord.proofs.text.first_line.Goals as goal
 
-pub returns-in-default : goal.returns-in-default
-returns-in-default c = first-misshapen c.args.text.now c.requires (λ l r m. absurd (c.in-default.ensures l r m))
+pub returns-in_default : goal.returns-in_default
+returns-in_default c = first-misshapen c.args.text.now c.requires (λ l r m. absurd (c.in_default.ensures l r m))
 
 pub returns-in-Ok : goal.returns-in-Ok
 returns-in-Ok c =

@@ -1,11 +1,11 @@
-use Rattle.std.proofs.Common.{◌≡◌, ◌≤◌, length, sym, ap, ◌∙◌, arith, rules, true-eqb, false-eqb}
+use Rattle.std.proofs.Common.{◌≤◌, length, sym, ap, ◌∙◌, arith, rules, true-eqb, false-eqb}
 use Rattle.std.proofs.lemmas.List.{length-set, length-drop, take_rest, take_more_set}
 use Rattle.srecord.proofs.Pairs.{fold_pairs, tail_of2, add_last, fold_more, fold_none, fold_end, fold_odd, fold-add_last, decoded-short}
 use Rattle.srecord.proofs.reader.Record.bytes.Goals as goal
 
-pub returns-in-default-pair : goal.returns-in-default-pair
-returns-in-default-pair c =
-    sym (fold_none add_last _ c.loop-rest.rest.now (search rules) (sym c.pair.ensures ∙ c.in-default-pair.is))
+pub returns-in_default-pair : goal.returns-in_default-pair
+returns-in_default-pair c =
+    sym (fold_none add_last _ c.loop-rest.rest.now (search rules) (sym c.pair.ensures ∙ c.in_default-pair.is))
     ∙ c.loop-rest.invariant.0 ∙ fold-add_last _ ∙ decoded-short c.args.self.now.digits.now (search rules)
 
 pub loop-rest-preserved : goal.loop-rest-preserved
@@ -21,12 +21,12 @@ loop-rest-preserved c =
       length-set c.loop-rest.bytes _ _ ∙ c.loop-rest.invariant.2,
     )
 
-pub returns-then-is-empty : goal.returns-then-is-empty
-returns-then-is-empty c =
-    sym (fold_end add_last _ c.loop-rest.rest.now (true-eqb _ 0 c.if-is-empty.ensures))
+pub returns-then-is_empty : goal.returns-then-is_empty
+returns-then-is_empty c =
+    sym (fold_end add_last _ c.loop-rest.rest.now (true-eqb _ 0 c.if-is_empty.ensures))
     ∙ c.loop-rest.invariant.0 ∙ fold-add_last _ ∙ decoded-short c.args.self.now.digits.now (search rules)
 
-pub returns-else-is-empty : goal.returns-else-is-empty
-returns-else-is-empty c =
-    sym (fold_odd add_last _ c.loop-rest.rest.now (search rules) (false-eqb _ 0 c.if-is-empty.ensures))
+pub returns-else-is_empty : goal.returns-else-is_empty
+returns-else-is_empty c =
+    sym (fold_odd add_last _ c.loop-rest.rest.now (search rules) (false-eqb _ 0 c.if-is_empty.ensures))
     ∙ c.loop-rest.invariant.0 ∙ fold-add_last _ ∙ decoded-short c.args.self.now.digits.now (search rules)
