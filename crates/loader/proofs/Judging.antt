@@ -1,7 +1,7 @@
 -- What a verdict means, from the laws of the reader and of the check. Assumes nothing.
 use Rattle.std.proofs.Common.{◌≡◌, ℕ, ◌+◌, ◌/◌, ◌%◌, ◌≤◌, Bool, true, false, cond, ◌&&◌, ◌||◌, eqb, ltb, leb, ◌⊎◌, List, [], ◌∷◌, length, Some, None, Ok, Err, Option, Result, sym, refl, ap, ◌∙◌, subst, inl, inr, ⊎_elim, arith, MatchOption}
 use Rattle.std.specs.Option.{option_to_list}
-use Rattle.std.specs.List.{AllByRecursion as All}
+use Rattle.std.specs.List.{AllByRecursion}
 use Rattle.std.proofs.ByRecursion.{All-weaker, All-from_get_or}
 use Rattle.std.proofs.lemmas.Option.{MatchOption-at_some, MatchOption-at_none}
 use Rattle.std.proofs.lemmas.Bool.{true≢false, and_parts, and_from, leb-true, le-leb, eqb-true, eqb-false, ltb-true, ltb-false, eq-eqb, ne_eqb, le-ltb, cond-true, cond-false}
@@ -38,10 +38,10 @@ hands-many n r x h = let e = length-bytes r.digits x.bytes (decoded-bytes r.digi
 -- what is known of data lines that come after the end e and have passed
 record Passed (w e : ℕ) (any : Bool) (es : List Entry) (f : Option FaultAt) : Type 0 where
   good : f ≡ None
-  whole : All (λ x. HasData x → length x.bytes % w ≡ 0) es
+  whole : AllByRecursion (λ x. HasData x → length x.bytes % w ≡ 0) es
   rising : Rising w es
-  past : All (λ x. HasData x → e ≤ start_of x) es
-  some : any ≡ false → All (λ x. length x.bytes ≡ 0) es → ⊥
+  past : AllByRecursion (λ x. HasData x → e ≤ start_of x) es
+  some : any ≡ false → AllByRecursion (λ x. length x.bytes ≡ 0) es → ⊥
 
 module _ (w : ℕ) (x : Entry) (es : List Entry) (f : Option FaultAt) where
   passed_empty : (e : ℕ) (any : Bool) → length x.bytes ≡ 0 → Passed w e any es f → Passed w e any (x ∷ es) f
@@ -179,7 +179,7 @@ from_start w es s = record {
   some = λ f. s.some;
 }
   where
-    all_from_each : (es : List Entry) → All (λ x. HasData x → 0 ≤ start_of x) es
+    all_from_each : (es : List Entry) → AllByRecursion (λ x. HasData x → 0 ≤ start_of x) es
     all_from_each es = All-from_get_or (λ x. HasData x → 0 ≤ start_of x) es (record { digit = 0; address = []; bytes = [] }) (λ i h k. omega arith)
 
 -- what passes has no fault

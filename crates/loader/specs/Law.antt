@@ -1,6 +1,6 @@
 -- What a verdict means: which texts are accepted, and what a refusal names.
 use Rattle.std.specs.Prelude.{◌≡◌, ℕ, ◌+◌, ◌/◌, ◌%◌, ◌<◌, ◌≤◌, max, Bool, true, false, cond, ◌⊎◌, List, [], ◌∷◌, length, take, Some, None, Ok, Err, fold, count_by, Option, Result, ◌==◌, nat_lt, slice_index_or}
-use Rattle.std.specs.List.{AllByRecursion as All}
+use Rattle.std.specs.List.{AllByRecursion}
 use Rattle.srecord.specs.declared.Fault.{Fault}
 use Rattle.srecord.specs.declared.Fault.TheVariants.{Order, Count, NoEnd}
 use Rattle.srecord.specs.File.{Entry, File, WritesFile, HandsFile}
@@ -38,13 +38,13 @@ HasData e = 0 < length e.bytes
 -- no data line with data starts below the end of an earlier one
 abbrev pub Rising : ℕ → List Entry → Type 0
 Rising w [] = Unit {0}
-Rising w (e ∷ es) = (HasData e → All (λ l. HasData l → end_of w e ≤ start_of l) es) × Rising w es
+Rising w (e ∷ es) = (HasData e → AllByRecursion (λ l. HasData l → end_of w e ≤ start_of l) es) × Rising w es
 
 -- the data lines suit the target: those with data fill whole addresses and rise, and there is one
 pub record Suits (w : ℕ) (es : List Entry) : Type 0 where
-  pub whole : All (λ e. HasData e → length e.bytes % w ≡ 0) es
+  pub whole : AllByRecursion (λ e. HasData e → length e.bytes % w ≡ 0) es
   pub rising : Rising w es
-  pub some : All (λ e. length e.bytes ≡ 0) es → ⊥
+  pub some : AllByRecursion (λ e. length e.bytes ≡ 0) es → ⊥
 
 -- the text writes a file that suits a target with w bytes an address, and its records are handed out
 pub record Holds (w : ℕ) (text : List ℕ) (f : File) : Type 0 where

@@ -1,6 +1,6 @@
 -- Changes of a memory as values: single changes, lists of them, and what they leave.
 use Rattle.std.specs.Prelude.{◌≡◌, ℕ, ◌<◌, Bool, true, false, cond, List, [], ◌∷◌, ◌++◌, map, length, ◌==◌, slice_index, slice_set}
-use Rattle.std.specs.List.{range_with_len, AllByRecursion as All}
+use Rattle.std.specs.List.{range_with_len, AllByRecursion}
 use Rattle.memory.specs.Part.{Shape}
 
 -- a byte is put at an offset, or a unit is cleared
@@ -34,7 +34,7 @@ left (clear u) = 255
 
 -- no change of the list covers the offset
 abbrev pub Untouched : Shape → ℕ → List Change → Type 0
-Untouched s o cs = All (λ c. covers s o c ≡ false) cs
+Untouched s o cs = AllByRecursion (λ c. covers s o c ≡ false) cs
 
 -- contents xs became ys by these changes: as long as before, and each byte is what the last change that
 -- covers it left, else as it was

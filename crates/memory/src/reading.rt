@@ -6,7 +6,7 @@ use std::alloc::{AllocError, Global};
 
 // Every byte of a part, from offset 0 on.
 pub fn read_all<P: ReadablePart>(heap: Global, part: &P) -> Result<Vec<u8>, AllocError>
-    ensures { IfOk result (λ v. v.items ≡ contents part.now) }
+    ensures { IfOk result (λ v. v.items ≡ P.ReadablePart.contents part.now) }
 {
     let len = part.len();
     let mut bytes = Vec::with_capacity(heap, len)?;

@@ -11,7 +11,7 @@ pub const SAMPLE_STEP: usize = 128;
 
 // The CRC over every 128th address of a part, each that lies whole in it, with all its bytes.
 pub fn seal<P: ReadablePart>(part: &P) -> u16
-    ensures { result ≡ seal_of width (contents part.now) }
+    ensures { result ≡ seal_of P.ReadablePart.width (P.ReadablePart.contents part.now) }
 {
     let width = P::address_width();
     let addresses = whole_addresses(part);
@@ -26,7 +26,7 @@ pub fn seal<P: ReadablePart>(part: &P) -> u16
 
 // How many addresses lie whole in a part.
 fn whole_addresses<P: ReadablePart>(part: &P) -> usize
-    ensures { result ≡ length (contents part.now) / width }
+    ensures { result ≡ length (P.ReadablePart.contents part.now) / P.ReadablePart.width }
 {
     part.len() / P::address_width()
 }
@@ -41,8 +41,8 @@ fn next_sample(address: usize) -> usize
 
 // The CRC over some bytes of a part, continued.
 fn crc_of_bytes<P: ReadablePart>(part: &P, start: usize, count: usize, from: u16) -> u16
-    requires { start + count ≤ length (contents part.now) }
-    ensures { result ≡ crc_from from (take count (drop start (contents part.now))) }
+    requires { start + count ≤ length (P.ReadablePart.contents part.now) }
+    ensures { result ≡ crc_from from (take count (drop start (P.ReadablePart.contents part.now))) }
 {
     let mut crc = from;
     for offset in start..start + count {
@@ -53,7 +53,7 @@ fn crc_of_bytes<P: ReadablePart>(part: &P, start: usize, count: usize, from: u16
 
 // The seal that is stored in the last two bytes of a part, high byte first; a shorter part has none.
 pub fn stored_seal<P: ReadablePart>(part: &P) -> Option<u16>
-    ensures { result ≡ stored_seal (contents part.now) }
+    ensures { result ≡ stored_seal (P.ReadablePart.contents part.now) }
 {
     let len = part.len();
     if len < 2 {

@@ -2,7 +2,7 @@
 -- Assumes nothing.
 use Rattle.std.proofs.Common.{◌≡◌, ℕ, ◌+◌, ◌≤◌, Bool, true, false, cond, eqb, List, [], ◌∷◌, ◌++◌, length, IfSome, Some, None, Ok, Err, Option, Result, sym, refl, ap, ◌∙◌, subst, arith}
 use Rattle.std.specs.Option.{option_to_list}
-use Rattle.std.specs.List.{AllByRecursion as All}
+use Rattle.std.specs.List.{AllByRecursion}
 use Rattle.std.proofs.ByRecursion.{All-append, All-weaker}
 use Rattle.std.proofs.lemmas.List.{length-append}
 use Rattle.std.proofs.lemmas.Option.{MatchOption-at_some}
@@ -122,7 +122,7 @@ record Tail (k n : ℕ) (ls : List (List ℕ)) (c : Coming) : Type 0 where
   records : List Entry
   count : Option Entry
   last : Entry
-  are : All (IsEntry Data) records
+  are : AllByRecursion (IsEntry Data) records
   counts : IfSome count (λ e. IsEntry Count e × (number e.address ≡ k + length records))
   ends : IsEntry End last
   lines : EachLine (records ++ (option_to_list count ++ last ∷ [])) ls
@@ -286,7 +286,7 @@ end-complete p k n e (l ∷ []) on is w =
 end-complete p k n e (l ∷ m ∷ ls) on is w = absurd w.1
 
 -- the data lines, the count and the end, each in its turn
-body-complete : (es : List Entry) (o : Option Entry) (last : Entry) (k n : ℕ) (ls : List (List ℕ)) → All (IsEntry Data) es → IfSome o (λ e. IsEntry Count e × (number e.address ≡ k + length es)) → IsEntry End last → EachLine (es ++ (option_to_list o ++ last ∷ [])) ls → ((coming_from Body k n ls).fault ≡ None) × HandsAll n (coming_from Body k n ls).records es
+body-complete : (es : List Entry) (o : Option Entry) (last : Entry) (k n : ℕ) (ls : List (List ℕ)) → AllByRecursion (IsEntry Data) es → IfSome o (λ e. IsEntry Count e × (number e.address ≡ k + length es)) → IsEntry End last → EachLine (es ++ (option_to_list o ++ last ∷ [])) ls → ((coming_from Body k n ls).fault ≡ None) × HandsAll n (coming_from Body k n ls).records es
 body-complete [] None last k n ls are counts ends w =
     let on = end-complete Body k n last ls refl ends w in
     (ap (λ c. c.fault) on, subst (λ (c : Coming). HandsAll n c.records []) (sym on) tt)
@@ -312,7 +312,7 @@ body-complete (e ∷ es) o last k n (l ∷ ls) are counts ends w =
     count_less k m (Some e) h = (h.0, let n = h.1 in omega arith)
 
 -- without a header, the file begins with a line that is read as any other
-bare-start : (es : List Entry) (o : Option Entry) (last : Entry) (ls : List (List ℕ)) → All (IsEntry Data) es → IfSome o (λ e. IsEntry Count e × (number e.address ≡ length es)) → IsEntry End last → EachLine (es ++ (option_to_list o ++ last ∷ [])) ls → coming_from Start 0 0 ls ≡ coming_from Body 0 0 ls
+bare-start : (es : List Entry) (o : Option Entry) (last : Entry) (ls : List (List ℕ)) → AllByRecursion (IsEntry Data) es → IfSome o (λ e. IsEntry Count e × (number e.address ≡ length es)) → IsEntry End last → EachLine (es ++ (option_to_list o ++ last ∷ [])) ls → coming_from Start 0 0 ls ≡ coming_from Body 0 0 ls
 bare-start [] None last [] are counts ends w = absurd w
 bare-start [] None last (l ∷ ls) are counts ends w = start-body 0 0 l ls end (line_reads End last ends l w.0).1 end-header
 bare-start [] (Some c) last [] are counts ends w = absurd w
@@ -325,7 +325,7 @@ from_none m None h = tt
 from_none m (Some e) h = (h.0, let n = h.1 in omega arith)
 
 -- the lines of a file are read to their end, and its records are handed out
-lines-complete : (h : Option Entry) (es : List Entry) (o : Option Entry) (last : Entry) (ls : List (List ℕ)) → IfSome h (IsEntry Header) → All (IsEntry Data) es → IfSome o (λ e. IsEntry Count e × (number e.address ≡ length es)) → IsEntry End last → EachLine (option_to_list h ++ (es ++ (option_to_list o ++ last ∷ []))) ls → ((coming_from Start 0 0 ls).fault ≡ None) × HandsAll (length (option_to_list h)) (coming_from Start 0 0 ls).records es
+lines-complete : (h : Option Entry) (es : List Entry) (o : Option Entry) (last : Entry) (ls : List (List ℕ)) → IfSome h (IsEntry Header) → AllByRecursion (IsEntry Data) es → IfSome o (λ e. IsEntry Count e × (number e.address ≡ length es)) → IsEntry End last → EachLine (option_to_list h ++ (es ++ (option_to_list o ++ last ∷ []))) ls → ((coming_from Start 0 0 ls).fault ≡ None) × HandsAll (length (option_to_list h)) (coming_from Start 0 0 ls).records es
 lines-complete None es o last ls head are counts ends w =
     let on = bare-start es o last ls are counts ends w in
     let rest = body-complete es o last 0 0 ls are (from_none (length es) o counts) ends w in

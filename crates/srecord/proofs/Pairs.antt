@@ -2,7 +2,7 @@
 use Rattle.std.proofs.Common.{◌≡◌, ℕ, zero, suc, ◌+◌, ◌-◌, ◌*◌, ◌%◌, ◌^◌, ◌<◌, ◌≤◌, Bool, true, false, cond, leb, List, [], ◌∷◌, ◌++◌, length, get_or, take, drop, Some, None, fold, sum, Option, sym, refl, ap, ◌∙◌, subst, append_assoc, append-nil, arith}
 use native.Mathlib.Nat.{mod-add-mod}
 use Rattle.std.specs.Option.{option_map}
-use Rattle.std.specs.List.{AllByRecursion as All}
+use Rattle.std.specs.List.{AllByRecursion}
 use Rattle.std.proofs.lemmas.List.{take_rest, take_all, drop_all}
 use Rattle.std.proofs.lemmas.List.Sums.{sum_by-cons}
 use Rattle.std.proofs.lemmas.Bool.{cond-true, le-leb}
@@ -121,12 +121,12 @@ length-bytes (x ∷ y ∷ cs) bs e =
     let more = length-bytes cs p.1 p.3 in
     omega arith
 
-pub bytes_small : (cs bs : List ℕ) → bytes_of cs ≡ Some bs → All (λ b. b < 256) bs
-bytes_small [] bs e = subst (All (λ b. b < 256)) (sym (bytes-nil bs e)) tt
+pub bytes_small : (cs bs : List ℕ) → bytes_of cs ≡ Some bs → AllByRecursion (λ b. b < 256) bs
+bytes_small [] bs e = subst (AllByRecursion (λ b. b < 256)) (sym (bytes-nil bs e)) tt
 bytes_small (x ∷ []) bs e = absurd (bytes-odd x bs e)
 bytes_small (x ∷ y ∷ cs) bs e =
     let p = bytes-uncons x y cs bs e in
-    subst (All (λ b. b < 256)) (sym p.4) (subst (mapped_below 256) p.2 (pair_small x y), bytes_small cs p.1 p.3)
+    subst (AllByRecursion (λ b. b < 256)) (sym p.4) (subst (mapped_below 256) p.2 (pair_small x y), bytes_small cs p.1 p.3)
 
 two-more : (k : ℕ) → 2 * suc k ≡ suc (suc (2 * k))
 two-more k = omega arith
@@ -161,7 +161,7 @@ bytes_take (suc k) (x ∷ y ∷ cs) bs e =
 abbrev pub add_wide : ℕ → ℕ → ℕ
 add_wide v b = ((v * 256) % 2 ^ 32 + b) % 2 ^ 32
 
-wide : (bs : List ℕ) → length bs ≤ 4 → All (λ b. b < 256) bs → fold add_wide 0 bs ≡ number bs
+wide : (bs : List ℕ) → length bs ≤ 4 → AllByRecursion (λ b. b < 256) bs → fold add_wide 0 bs ≡ number bs
 wide [] h s = refl
 wide (a ∷ []) h s = omega arith
 wide (a ∷ b ∷ []) h s = omega arith

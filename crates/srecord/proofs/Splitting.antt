@@ -1,6 +1,6 @@
 -- The lines of a text are those that it writes, one after the other. Assumes nothing.
 use Rattle.std.proofs.Common.{◌≡◌, ℕ, List, [], ◌∷◌, ◌++◌, sym, refl, ap, ◌∙◌, subst, inl, inr}
-use Rattle.std.specs.List.{AllByRecursion as All}
+use Rattle.std.specs.List.{AllByRecursion}
 use Rattle.srecord.specs.declared.line.Kind.{Kind}
 use Rattle.srecord.specs.File.{Entry, IsEntry, WritesLine, EndsLine, WritesText}
 use Rattle.srecord.specs.Text.{lines_of, EndsBefore}
@@ -17,7 +17,7 @@ EachLine (e ∷ es) (l ∷ ls) = WritesLine e l × EachLine es ls
 
 -- each is a line of some kind
 abbrev pub Lines : List Entry → Type 0
-Lines es = All (λ e. (k : Kind) × IsEntry k e) es
+Lines es = AllByRecursion (λ e. (k : Kind) × IsEntry k e) es
 
 -- ---- from the text to its lines
 

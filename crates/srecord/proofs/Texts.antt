@@ -1,6 +1,6 @@
 -- Laws of the lines of a text. Assumes nothing.
 use Rattle.std.proofs.Common.{◌≡◌, ℕ, ◌-◌, ◌<◌, ◌≤◌, Bool, true, false, ◌&&◌, eqb, List, [], ◌∷◌, ◌++◌, length, get_or, take, drop, sym, refl, ap, ◌∙◌, inl, inr, arith}
-use Rattle.std.specs.List.{AllByRecursion as All}
+use Rattle.std.specs.List.{AllByRecursion}
 use Rattle.std.proofs.lemmas.List.{take_rest}
 use Rattle.std.proofs.lemmas.Slice.{first_rest}
 use Rattle.std.proofs.lemmas.Bool.{eqb-true, ne_eqb, and_parts, and_left, and_right, cond-true, cond-false}
@@ -12,7 +12,7 @@ lines_of-nil = refl
 
 -- no character of these ends a line
 abbrev pub Plain : List ℕ → Type 0
-Plain cs = All (λ c. 48 ≤ c) cs
+Plain cs = AllByRecursion (λ c. 48 ≤ c) cs
 
 -- such a character goes in front of the first line
 plain_more : (b : ℕ) (text : List ℕ) → 48 ≤ b → lines_of (b ∷ text) ≡ on_first b (lines_of text)

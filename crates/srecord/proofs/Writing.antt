@@ -1,6 +1,6 @@
 -- A line is read exactly when it is written as lines are. Assumes nothing.
 use Rattle.std.proofs.Common.{◌≡◌, ℕ, suc, ◌+◌, ◌-◌, ◌*◌, ◌/◌, ◌%◌, ◌<◌, ◌≤◌, Bool, true, false, cond, ◌&&◌, ◌||◌, eqb, ltb, leb, List, [], ◌∷◌, ◌++◌, length, get_or, take, drop, IfSome, Some, None, Ok, Err, sum, Result, sym, refl, ap, ◌∙◌, subst, inl, inr, append_assoc, arith, MatchOption}
-use Rattle.std.specs.List.{AllByRecursion as All}
+use Rattle.std.specs.List.{AllByRecursion}
 use Rattle.std.proofs.ByRecursion.{All-get_or, All-take}
 use Rattle.std.proofs.lemmas.List.{length-append, length_push, length-take-le, take_at, take_all, take_more, take-take, drop_at, drop-take, take-append-drop}
 use Rattle.std.proofs.lemmas.Option.{MatchOption-at_some}
@@ -237,7 +237,7 @@ record Parts (f : Form) (n : ℕ) (bs : List ℕ) : Type 0 where
   count : n ≡ length bs
   room : f.width < length bs
   bare : carries_data f.kind ≡ false → length bs ≡ f.width + 1
-  small : All (λ b. b < 256) (n ∷ bs)
+  small : AllByRecursion (λ b. b < 256) (n ∷ bs)
 
 module _ (t : ℕ) (f : Form) (type : form_of t ≡ Some f) (n : ℕ) (bs : List ℕ) (p : Parts f n bs) where
   -- the line that these bytes are
@@ -262,7 +262,7 @@ module _ (t : ℕ) (f : Form) (type : form_of t ≡ Some f) (n : ℕ) (bs : List
   unfolding entry
   entry_is = record {
     type = let room = p.room in subst (λ (w : ℕ). IsType f.kind w t) (sym (length-take-le f.width bs (omega arith))) (MatchOption-at_some (Unit {0}) (λ g. IsType g.kind g.width t) f type (form_type t));
-    small = subst (All (λ b. b < 256)) (sym entry_body) (All-take (λ b. b < 256) (length bs - 1) bs p.small.1);
+    small = subst (AllByRecursion (λ b. b < 256)) (sym entry_body) (All-take (λ b. b < 256) (length bs - 1) bs p.small.1);
     short = let long = entry_long in let byte = p.small.0 in omega arith;
     carries = may_carry f.kind _ (λ h. let long = p.bare h in let none : length bs - f.width - 1 ≡ 0 = omega arith in ap (λ (m : ℕ). take m (drop f.width bs)) none);
   }

@@ -1,7 +1,7 @@
 -- S-record files as they are meant, and the texts that write them.
 use Rattle.std.specs.Prelude.{◌≡◌, ℕ, ◌+◌, ◌-◌, ◌/◌, ◌%◌, ◌<◌, ◌≤◌, ◌⊎◌, List, [], ◌∷◌, ◌++◌, length, IfSome, Some, Ok, Err, sum, Option, Result, ◌≢◌}
 use Rattle.std.specs.Option.{option_to_list}
-use Rattle.std.specs.List.{AllByRecursion as All}
+use Rattle.std.specs.List.{AllByRecursion}
 use Rattle.srecord.specs.declared.line.Fault.{Fault}
 use Rattle.srecord.specs.declared.line.Fault.TheVariants.{Shape, Checksum}
 use Rattle.srecord.specs.declared.line.Kind.{Kind}
@@ -60,7 +60,7 @@ MayCarry End bs = bs ≡ []
 -- count is one too, and the data is such as the kind may carry
 pub record IsEntry (k : Kind) (e : Entry) : Type 0 where
   pub type : IsType k (length e.address) e.digit
-  pub small : All (λ b. b < 256) (body_of e)
+  pub small : AllByRecursion (λ b. b < 256) (body_of e)
   pub short : count_of e < 256
   pub carries : MayCarry k e.bytes
 
@@ -111,7 +111,7 @@ pub record File : Type 0 where
 -- each line is of its kind, and a count is the number of the data lines
 pub record IsFile (f : File) : Type 0 where
   pub header : IfSome f.header (IsEntry Header)
-  pub records : All (IsEntry Data) f.records
+  pub records : AllByRecursion (IsEntry Data) f.records
   pub count : IfSome f.count (λ e. IsEntry Count e × (number e.address ≡ length f.records))
   pub end : IsEntry End f.end
 

@@ -7,12 +7,12 @@ use Rattle.memory.proofs.crc.crc_over.Goals as goal
 
 pub loop-byte-preserved : goal.loop-byte-preserved
 loop-byte-preserved c =
-    cc (fold_more crc_byte c.over-steps-crc.result c.split-at.result.1.now c.loop-byte.byte-index 0 (search rules))
+    cc (fold_more crc_byte c.over_steps-crc.result c.split_at.result.1.now c.loop-byte.byte-index 0 (search rules))
 
 pub returns : goal.returns
 returns c =
-    let steps = c.split-at.result.0.now in
-    let rest = c.split-at.result.1.now in
+    let steps = c.split_at.result.0.now in
+    let rest = c.split_at.result.1.now in
     let all : c.loop-byte.crc ≡ crc_from c.args.from c.args.bytes.now =
-    cc (take_all c.loop-byte.byte-index rest (search rules), continues c.args.from c.args.bytes.now _ refl steps rest c.split-at.ensures.by_index.0) in
+    cc (take_all c.loop-byte.byte-index rest (search rules), continues c.args.from c.args.bytes.now _ refl steps rest c.split_at.ensures.by_index.0) in
     record { answer = all; law = continues _ _ _ all }

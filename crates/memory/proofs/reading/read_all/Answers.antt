@@ -7,7 +7,7 @@ pub loop-offset-preserved : goal.loop-offset-preserved
 loop-offset-preserved g c =
     let xs = g.P.ReadablePart.contents c.args.part.now in
     let i = c.loop-offset.offset in
-    let q = c.push-reserved.ensures in
+    let q = c.push_reserved.ensures in
     let h : i < length xs = omega arith in
     let byte = read-inside xs i c.unwrap.result h (sym c.read.ensures ∙ c.unwrap.ensures) in (
       omega arith,

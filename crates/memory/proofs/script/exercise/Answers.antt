@@ -8,11 +8,11 @@ use Rattle.memory.proofs.script.exercise.Goals as goal
 
 pub loop-action-init : goal.loop-action-init
 loop-action-init g c =
-    let h = c.in-ok-answers.ensures in
+    let h = c.in_ok-answers.ensures in
     (h.len, h.capacity, refl, ap (λ zs. zs ++ answers_of (g.P.WritablePart.shape c.args.part.now) (g.P.ReadablePart.contents c.args.part.now) c.args.actions.now) h.items, refl)
 
-pub push-reserved-requires : goal.push-reserved-requires
-push-reserved-requires g c = omega (arith, c.loop-action.invariant.0, c.loop-action.invariant.1)
+pub push_reserved-requires : goal.push_reserved-requires
+push_reserved-requires g c = omega (arith, c.loop-action.invariant.0, c.loop-action.invariant.1)
 
 pub loop-action-preserved : goal.loop-action-preserved
 loop-action-preserved g c =
@@ -22,7 +22,7 @@ loop-action-preserved g c =
     let all = c.args.actions.now in
     let i = c.loop-action.action-index in
     let p = c.perform.ensures in
-    let q = c.push-reserved.ensures in
+    let q = c.push_reserved.ensures in
     let lt = c.loop-action-test.true in
     let a = get_or all i (Read 0) in
     let after = p.after ∙ ap (λ t. after_action t xs a) inv.2 in (

@@ -16,7 +16,7 @@ loop-offset-preserved g c =
     let e = c.args.start + c.args.count in
     let h : i < length xs = omega arith in
     let byte = read-inside xs i c.unwrap.result h (sym c.read.ensures ∙ c.unwrap.ensures) in
-    ap (λ v. crc_from v (take (e - (i + 1)) (drop (i + 1) xs))) (c.crc-byte-crc.ensures ∙ ap (crc_byte c.loop-offset.crc) byte)
+    ap (λ v. crc_from v (take (e - (i + 1)) (drop (i + 1) xs))) (c.crc_byte-crc.ensures ∙ ap (crc_byte c.loop-offset.crc) byte)
     ∙ sym (ap (crc_from c.loop-offset.crc) (part_more xs i e h c.loop-offset-test.true))
     ∙ c.loop-offset.invariant
 
