@@ -1,13 +1,13 @@
 -- Actions one after the other: what they answer and what they leave. Assumes nothing.
-use Rattle.std.proofs.Common.{◌≡◌, ℕ, ◌+◌, ◌<◌, ◌≤◌, Bool, true, false, cond, ltb, List, [], ◌∷◌, ◌++◌, length, get_or, drop, is_ok, Ok, Err, Result, sym, refl, ap, ◌∙◌, append_assoc, append-nil}
+use Rattle.std.proofs.Common.{◌≡◌, ℕ, ◌+◌, ◌<◌, ◌≤◌, Bool, cond, List, [], ◌∷◌, ◌++◌, length, get_or, drop, is_ok, Ok, Err, Result, sym, refl, ap, ◌∙◌, append_assoc, append-nil}
 use Rattle.std.proofs.lemmas.List.{at_drop_more, at_drop_all}
 use Rattle.memory.specs.declared.refusal.PartRefusal.{PartRefusal}
 use Rattle.memory.specs.declared.script.Action.{Action}
 use Rattle.memory.specs.declared.script.Action.TheVariants.{Read, Question, Put, Clear}
 use Rattle.memory.specs.declared.script.Answer.{Answer}
-use Rattle.memory.specs.declared.script.Answer.TheVariants.{Byte, Taken, Done, Refused}
+use Rattle.memory.specs.declared.script.Answer.TheVariants.{Byte, Taken, Done}
 use Rattle.memory.specs.Part.{Shape}
-use Rattle.memory.specs.Changes.{Change, put, clear, changed, changed_all}
+use Rattle.memory.specs.Changes.{put, clear, changed, changed_all}
 use Rattle.memory.specs.Calls.{read_answer, question_answer, put_answer, clear_answer}
 use Rattle.memory.specs.Script.{answered, answer_of, after_action, answers_of, made_by, made_by_all}
 use Rattle.memory.proofs.Changing.{changed_all-++}

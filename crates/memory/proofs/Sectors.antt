@@ -1,5 +1,5 @@
 -- Equal sectors, counted from the highest offsets down. Assumes nothing.
-use Rattle.std.proofs.Common.{◌≡◌, ℕ, ◌+◌, ◌-◌, ◌*◌, ◌/◌, ◌%◌, ◌<◌, ◌≤◌, min, Bool, true, false, ◌&&◌, leb, ◌⊎◌, ap, ◌∙◌, inl, inr, mul-le-mul_right, add-mul, one-mul, mul-zero, arith}
+use Rattle.std.proofs.Common.{◌≡◌, ℕ, ◌+◌, ◌-◌, ◌*◌, ◌/◌, ◌<◌, ◌≤◌, min, false, leb, ap, ◌∙◌, inl, inr, mul-le-mul_right, add-mul, one-mul, mul-zero, arith}
 use Rattle.std.proofs.lemmas.Nat.{div-add-mod', div-mul-add, mod_below, div_below}
 use Rattle.std.proofs.lemmas.Bool.{cases_eq, lt-leb, and_left, and_right}
 use Rattle.memory.specs.declared.layout.Layout.{Layout}

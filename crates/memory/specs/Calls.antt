@@ -1,5 +1,5 @@
 -- What the calls of a part answer, and what they leave.
-use Rattle.std.specs.Prelude.{ℕ, Bool, true, false, cond, List, length, is_ok, Ok, Err, Result, nat_lt, slice_index}
+use Rattle.std.specs.Prelude.{ℕ, Bool, cond, List, length, is_ok, Ok, Err, Result, nat_lt, slice_index}
 use Rattle.memory.specs.declared.refusal.PartRefusal.{PartRefusal}
 use Rattle.memory.specs.declared.refusal.PartRefusal.TheVariants.{Outside, NotTaken, NoSuchUnit}
 use Rattle.memory.specs.Part.{Shape}

@@ -1,7 +1,6 @@
 -- Laws of the lane crossing. Assumes nothing.
-use Rattle.std.specs.Prelude.{◌≡◌, ℕ, ◌+◌, ◌-◌, ◌%◌, ◌<◌, ◌≤◌, Bool, true, false, cond, ltb, ◌⊎◌, List, map, length, is_ok, Ok, Err, ◌==◌, ◌≢◌, nat_lt, slice_index, slice_set, refl}
+use Rattle.std.specs.Prelude.{◌≡◌, ℕ, ◌<◌, ◌≤◌, Bool, true, false, cond, ltb, List, length, is_ok, Ok, Err, ◌==◌, ◌≢◌, nat_lt, slice_index, slice_set, refl}
 use Rattle.std.proofs.Common.{sym, ap, subst, ◌∙◌, inl, inr, arith}
-use Rattle.std.specs.List.{range_with_len}
 use Rattle.std.proofs.lemmas.List.FromFn.{length-map-range_with_len, get_or-map-range_with_len}
 use Rattle.std.proofs.lemmas.List.{ext_get_or, length-set, get_or-set_same, get_or-set_other}
 use Rattle.std.proofs.lemmas.Bool.{cases_eq, cases_lt, lt-ltb, le-ltb}
@@ -11,7 +10,7 @@ use Rattle.memory.specs.Part.{Shape, IsShape}
 use Rattle.memory.specs.Changes.{cleared_unit}
 use Rattle.memory.specs.Calls.{read_answer, question_answer, put_answer, after_put, clear_answer, after_clear}
 use Rattle.memory.specs.Clearing.{get_or-cleared}
-use Rattle.memory.specs.Crossing.{crossed, crossed_contents, crossed_shape, Meaning, crossed_meaning, CrossedTwice}
+use Rattle.memory.specs.Crossing.{crossed, crossed_contents, crossed_shape, CrossedTwice}
 
 pub cross_inside : (n o : ℕ) → o < n → crossed n o < n
 cross_inside n o h = grind (arith, nat_tests)

@@ -1,6 +1,5 @@
 -- Values written out, with what the definitions make of them.
-use Rattle.std.specs.Prelude.{◌≡◌, ℕ, true, false, List, [], ◌∷◌, ◌++◌, replicate, Some, None}
-use Rattle.memory.specs.declared.layout.Layout.{Layout}
+use Rattle.std.specs.Prelude.{◌≡◌, true, false, [], ◌∷◌, ◌++◌, replicate, Some, None}
 use Rattle.memory.specs.Crc.{crc_from}
 use Rattle.memory.specs.Crossing.{crossed_contents}
 use Rattle.memory.specs.Changes.{cleared_unit}

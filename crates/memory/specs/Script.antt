@@ -1,5 +1,5 @@
 -- What a list of actions on a part answers, and what it changes.
-use Rattle.std.specs.Prelude.{ℕ, Bool, true, false, cond, List, [], ◌∷◌, ◌++◌, Ok, Err, Result}
+use Rattle.std.specs.Prelude.{ℕ, List, [], ◌∷◌, ◌++◌, Ok, Err, Result}
 use Rattle.memory.specs.declared.refusal.PartRefusal.{PartRefusal}
 use Rattle.memory.specs.declared.script.Action.{Action}
 use Rattle.memory.specs.declared.script.Action.TheVariants.{Read, Question, Put, Clear}

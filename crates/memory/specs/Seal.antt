@@ -1,5 +1,5 @@
 -- The seal: a CRC over a sample of a memory, by which a board knows that its flash holds what was loaded.
-use Rattle.std.specs.Prelude.{ℕ, zero, suc, ◌+◌, ◌-◌, ◌*◌, ◌/◌, ◌%◌, Bool, true, false, cond, List, [], ◌++◌, length, take, drop, Some, None, Option, ◌==◌, nat_lt, slice_index}
+use Rattle.std.specs.Prelude.{ℕ, zero, suc, ◌+◌, ◌-◌, ◌*◌, ◌/◌, ◌%◌, Bool, false, cond, List, [], ◌++◌, length, take, drop, Some, None, Option, ◌==◌, nat_lt, slice_index}
 use Rattle.memory.specs.Crc.{crc_from}
 
 -- the bytes of an address, which stands for w bytes

@@ -1,4 +1,4 @@
-use Rattle.std.proofs.Common.{◌≡◌, ℕ, List, ◌++◌, get_or, vec_items, sym, refl, ap, ◌∙◌, subst, arith}
+use Rattle.std.proofs.Common.{◌≡◌, ◌++◌, get_or, vec_items, sym, refl, ap, ◌∙◌, subst, arith}
 use Rattle.memory.specs.declared.script.Action.TheVariants.{Read}
 use Rattle.memory.specs.Changes.{changed_all, ByLast}
 use Rattle.memory.specs.Script.{answer_of, after_action, answers_of, made_by_all}

@@ -1,4 +1,4 @@
-use Rattle.std.proofs.Common.{◌≡◌, ◌+◌, ◌-◌, ◌<◌, length, get_or, take, drop, sym, refl, ap, ◌∙◌, arith}
+use Rattle.std.proofs.Common.{◌≡◌, ◌+◌, ◌-◌, ◌<◌, length, take, drop, sym, ap, ◌∙◌, arith}
 use Rattle.memory.specs.Crc.{crc_byte, crc_from}
 use Rattle.memory.proofs.Answering.{read-inside}
 use Rattle.memory.proofs.Samples.{part_more}

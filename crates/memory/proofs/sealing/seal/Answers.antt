@@ -1,4 +1,4 @@
-use Rattle.std.proofs.Common.{◌≡◌, ℕ, ◌+◌, ◌*◌, min, ◌++◌, take, drop, sym, refl, ap, ◌∙◌, arith}
+use Rattle.std.proofs.Common.{◌≡◌, ◌*◌, min, take, drop, sym, refl, ap, ◌∙◌, arith}
 use Rattle.std.proofs.iter.runs.Lists.{fold-append}
 use Rattle.memory.specs.Crc.{crc_byte, crc_from}
 use Rattle.memory.specs.Seal.{address_bytes, sampled}

@@ -1,5 +1,4 @@
-use Rattle.std.proofs.Common.{◌≡◌, ◌<◌, ◌≤◌, length, vec_items, sym, refl, ap, ◌∙◌, arith, rules}
-use Rattle.memory.specs.Blank.{blanked}
+use Rattle.std.proofs.Common.{◌≡◌, ◌<◌, length, vec_items, sym, refl, ◌∙◌, arith, rules}
 use Rattle.memory.specs.Eeprom.{eeprom_shape}
 use Rattle.memory.proofs.Answering.{clear-done}
 use Rattle.memory.proofs.Blanks.{blanked_unit}
