@@ -1,7 +1,7 @@
 // EEPROM: one byte an address, one unit, and every value is taken.
 ghost use Rattle.std.specs.Prelude.{◌≡◌, ◌≤◌, vec_len};
 ghost use Rattle.memory.specs.Eeprom.{eeprom_shape, eeprom_contents};
-ghost use Rattle.std.proofs.Common.{rules, arith};
+ghost use Rattle.std.proofs.Common.{rules};
 
 use crate::bytes::{blanken, byte_at};
 use crate::part::{MAX_LENGTH, ReadablePart, WritablePart};
@@ -31,9 +31,9 @@ impl ReadablePart for Eeprom {
 
     ghost contents = { λ e. e.bytes.items };
 
-    ghost widths = { first_of (Prim.search rules, Prim.grind (arith, Self.row.coded.inj)) };
+    ghost widths = { Prim.search rules };
 
-    ghost limited = { first_of (Prim.search rules, Prim.grind (arith, Self.row.coded.inj)) };
+    ghost limited = { Prim.search rules };
 
     fn address_width() -> usize {
         Self::BYTES_PER_ADDRESS
@@ -51,7 +51,7 @@ impl ReadablePart for Eeprom {
 impl WritablePart for Eeprom {
     ghost shape = { λ _. eeprom_shape };
 
-    ghost shaped = { first_of (Prim.search rules, Prim.grind (arith, Self.row.coded.inj)) };
+    ghost shaped = { Prim.search rules };
 
     fn units(&self) -> usize {
         1

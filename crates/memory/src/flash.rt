@@ -43,9 +43,9 @@ impl ReadablePart for Flash {
 
     ghost contents = { λ f. f.bytes.items };
 
-    ghost widths = { first_of (Prim.search rules, Prim.grind (arith, Self.row.coded.inj)) };
+    ghost widths = { Prim.search rules };
 
-    ghost limited = { first_of (Prim.search rules, Prim.grind (arith, Self.row.coded.inj)) };
+    ghost limited = { Prim.search rules };
 
     fn address_width() -> usize {
         Self::BYTES_PER_ADDRESS
