@@ -6,6 +6,9 @@
 //!     memory size                the length of that input
 //!     memory time                all over that input, in turn: the best times, in the order above
 
+mod random;
+
+use random::Random;
 use std::hint::black_box;
 use std::process::ExitCode;
 use std::time::Duration;
@@ -101,17 +104,8 @@ const WAYS: [(&str, Crc); 4] = [
     ("bits", measured_bits),
 ];
 
-/// A generator of pseudo-random numbers that gives the same ones in each run.
-struct Random(u64);
-
+/// What the inputs are made with.
 impl Random {
-    fn next(&mut self) -> u64 {
-        self.0 ^= self.0 << 13;
-        self.0 ^= self.0 >> 7;
-        self.0 ^= self.0 << 17;
-        self.0.wrapping_mul(0x2545_f491_4f6c_dd1d) >> 11
-    }
-
     fn bytes(&mut self, len: usize) -> Vec<u8> {
         (0..len).map(|_| self.next() as u8).collect()
     }

@@ -7,7 +7,9 @@
 //!     srecord time       both on that text, in turn: the best times
 
 mod plain;
+mod random;
 
+use random::Random;
 use std::hint::black_box;
 use std::process::ExitCode;
 use std::time::Duration;
@@ -34,17 +36,8 @@ fn measured_rust(text: &[u8], target: u8, size: u64) -> u8 {
     }
 }
 
-/// A generator of pseudo-random numbers that gives the same ones in each run.
-struct Random(u64);
-
+/// What the texts are made with.
 impl Random {
-    fn next(&mut self) -> u64 {
-        self.0 ^= self.0 << 13;
-        self.0 ^= self.0 >> 7;
-        self.0 ^= self.0 << 17;
-        self.0.wrapping_mul(0x2545_f491_4f6c_dd1d) >> 11
-    }
-
     fn below(&mut self, n: usize) -> usize {
         (self.next() % n as u64) as usize
     }
