@@ -13,8 +13,10 @@ from pathlib import Path
 HERE = Path(__file__).resolve().parent
 ROWS = dict(line.split("\t") for line in (HERE / "respell.tsv").read_text().splitlines())
 
-# A lemma that would get the name of the definition that it is about, by file.
+# By file: a lemma that would get the name of the definition that it is about, and one whose old name is also a
+# name that Rattle makes.
 LEMMAS = {
+    "crates/srecord/proofs/Arrivals.antt": {"not-data": "not_data"},
     "crates/srecord/proofs/Writing.antt": {"digit_value": "digit_value_lem"},
     "crates/loader/proofs/Faults.antt": {"goes_on": "goes_on_lem"},
 }

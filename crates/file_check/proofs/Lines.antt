@@ -25,12 +25,12 @@ on_other n b t h e =
     let f = ne_eqb b 10 e in
     rw (behind_lines, z, f)
 
-pub past-feed : (n : ℕ) (xs : List ℕ) → 0 < n → 0 < length xs → get_or xs 0 0 ≡ 10 → behind_lines (n - 1) (tail_of xs) ≡ behind_lines n xs
-past-feed n xs h l e =
+pub past_feed : (n : ℕ) (xs : List ℕ) → 0 < n → 0 < length xs → get_or xs 0 0 ≡ 10 → behind_lines (n - 1) (tail_of xs) ≡ behind_lines n xs
+past_feed n xs h l e =
     sym (ap (behind_lines n) (apart xs l) ∙ on_feed n (get_or xs 0 0) (tail_of xs) h e)
 
-pub past-other : (n : ℕ) (xs : List ℕ) → 0 < n → 0 < length xs → (get_or xs 0 0 ≡ 10 → ⊥) → behind_lines n (tail_of xs) ≡ behind_lines n xs
-past-other n xs h l e =
+pub past_other : (n : ℕ) (xs : List ℕ) → 0 < n → 0 < length xs → (get_or xs 0 0 ≡ 10 → ⊥) → behind_lines n (tail_of xs) ≡ behind_lines n xs
+past_other n xs h l e =
     sym (ap (behind_lines n) (apart xs l) ∙ on_other n (get_or xs 0 0) (tail_of xs) h e)
 
 pub at-line : (n : ℕ) (xs : List ℕ) → n ≤ 0 → xs ≡ behind_lines n xs

@@ -8,7 +8,7 @@ use Rattle.std.proofs.lemmas.Bool.{true≢false, and_parts, and_from, leb-true, 
 use Rattle.srecord.specs.declared.FaultAt.{FaultAt}
 use Rattle.srecord.specs.File.{Entry, File, WritesFile, Hands, HandsAll, HandsFile}
 use Rattle.srecord.specs.Reading.{Handed, coming_of}
-use Rattle.srecord.proofs.Files.{file-sound, file-complete}
+use Rattle.srecord.proofs.Files.{file_sound, file_complete}
 use Rattle.srecord.proofs.Pairs.{length-bytes, decoded-bytes}
 use Rattle.loader.specs.declared.file.Reason.{Reason}
 use Rattle.loader.specs.declared.file.Reason.TheVariants.{TextSize, NotRising, NotWhole}
@@ -203,13 +203,13 @@ module _ (text : List ℕ) (target size : ℕ) where
       by true q k = absurd (err_ok k)
       by false q k =
           let none = fault-none w 0 false (coming_of text).records (coming_of text).fault k in
-          let f = file-sound text none in
+          let f = file_sound text none in
           let p = passed w 0 false (length (option_to_list f.0.header)) (coming_of text).records f.0.records (coming_of text).fault f.2 k in
           (w, MatchOption-at_some _ (IsTarget target size) w b (width_of target size), ltb-false 4194304 (length text) q, (f.0, record { writes = f.1; suits = record { whole = p.whole; rising = p.rising; some = p.some refl }; hands = f.2 }))
 
   accepts_for : (w : ℕ) (f : File) → IsTarget target size w → length text ≤ 4194304 → WritesFile f text → Suits w f.records → (verdict text target size ≡ Ok tt) × HandsFile (coming_of text).records f
   accepts_for w f b short wr s =
-      let r = file-complete f text wr in (
+      let r = file_complete f text wr in (
         ap (verdict_for text) (target-width target size w b) ∙ cond-false (ltb 4194304 (length text)) _ _ (le-ltb 4194304 (length text) short)
             ∙ ap (suits_from w 0 false (coming_of text).records) r.0
             ∙ passes w 0 false (length (option_to_list f.header)) (coming_of text).records f.records r.1 (from_start w f.records s),

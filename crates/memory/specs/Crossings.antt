@@ -34,11 +34,11 @@ pub get_or-crossed : (xs : List ℕ) (o : ℕ) → o < length xs → slice_index
 get_or-crossed xs o h = get_or-map-range_with_len (λ k. slice_index xs (crossed (length xs) k)) 0 (length xs) o o 0 h (omega arith)
 
 -- what is known of the bytes at each offset is known of the list
-by-places : (xs ys : List ℕ) → length ys ≡ length xs → ((o : ℕ) → o < length xs → slice_index ys o ≡ slice_index xs o) → ys ≡ xs
-by-places xs ys e f = ext_get_or 0 ys xs e (λ o h. f o (omega arith))
+by_places : (xs ys : List ℕ) → length ys ≡ length xs → ((o : ℕ) → o < length xs → slice_index ys o ≡ slice_index xs o) → ys ≡ xs
+by_places xs ys e f = ext_get_or 0 ys xs e (λ o h. f o (omega arith))
 
 contents-twice : (xs : List ℕ) → crossed_contents (crossed_contents xs) ≡ xs
-contents-twice xs = by-places xs _ (length-crossed (crossed_contents xs) ∙ length-crossed xs) at
+contents-twice xs = by_places xs _ (length-crossed (crossed_contents xs) ∙ length-crossed xs) at
   where
     at : (o : ℕ) → o < length xs → slice_index (crossed_contents (crossed_contents xs)) o ≡ slice_index xs o
     at o h =
@@ -153,8 +153,8 @@ after_clear_crossed xs s u =
     ∙ ap (λ ys. cond (is_ok (clear_answer s u)) ys (crossed_contents xs)) (sym (cleared_crossed xs s.unit_of u))
 
 -- a part below that keeps its length and its shape gives a crossing that keeps its shape
-pub same-crossed : (m n : ℕ) (s t : Shape) → m ≡ n → s ≡ t → crossed_shape m s ≡ crossed_shape n t
-same-crossed m n s t e f = ap (λ k. crossed_shape k s) e ∙ ap (crossed_shape n) f
+pub same_crossed : (m n : ℕ) (s t : Shape) → m ≡ n → s ≡ t → crossed_shape m s ≡ crossed_shape n t
+same_crossed m n s t e f = ap (λ k. crossed_shape k s) e ∙ ap (crossed_shape n) f
 
 pub crossed-shaped : (xs : List ℕ) (s : Shape) → IsShape (length xs) s → IsShape (length (crossed_contents xs)) (crossed_shape (length xs) s)
 crossed-shaped xs s i =

@@ -22,7 +22,7 @@ use Rattle.srecord.specs.Reading.{pass, at_end, Coming, Handed, stopped, step_of
 use Rattle.srecord.specs.Text.{lines_of}
 use Rattle.srecord.proofs.Arrivals.{coming_step, coming_fault, coming_handed, coming-nil}
 use Rattle.srecord.proofs.Pairs.{none-some, length-bytes, decoded-short}
-use Rattle.srecord.proofs.Splitting.{EachLine, Lines, text_lines, lines-text}
+use Rattle.srecord.proofs.Splitting.{EachLine, Lines, text_lines, lines_text}
 use Rattle.srecord.proofs.Writing.{type-form, line_reads, reads-line}
 
 -- ---- a line that is read is a line of its kind
@@ -67,8 +67,8 @@ count_same {a} {b} e = cc
 type-wide : (t : ℕ) → IfSome (form_of t) (λ f. 2 ≤ f.width)
 type-wide t = grind (arith, nat_tests)
 
-entry-decoded : {k : Kind} {e : Entry} → IsEntry k e → (ds : List ℕ) → bytes_of ds ≡ Some e.bytes → decoded ds ≡ Some e.bytes
-entry-decoded {k} {e} is ds h =
+entry_decoded : {k : Kind} {e : Entry} → IsEntry k e → (ds : List ℕ) → bytes_of ds ≡ Some e.bytes → decoded ds ≡ Some e.bytes
+entry_decoded {k} {e} is ds h =
     let wide = MatchOption-at_some (Unit {0}) (λ f. 2 ≤ f.width) (record { kind = k; width = length e.address }) (type-form k (length e.address) e.digit is.type) (type-wide e.digit) in
     let parts = length-append e.address e.bytes in
     let short = is.short in
@@ -173,7 +173,7 @@ module _ (k n : ℕ) (l : List ℕ) (ls : List (List ℕ)) where
         counts = subst (λ (m : ℕ). IfSome t.count (λ e. IsEntry Count e × (number e.address ≡ k + m))) more (count-more k (length t.records) t.count t.counts);
         ends = t.ends;
         lines = (r.writes, t.lines);
-        hands = (record { line = refl; address = same.0; bytes = entry-decoded r.is ds (ap bytes_of same.1 ∙ r.told.spells) }, t.hands);
+        hands = (record { line = refl; address = same.0; bytes = entry_decoded r.is ds (ap bytes_of same.1 ∙ r.told.spells) }, t.hands);
       }
 
 body : (k n : ℕ) (ls : List (List ℕ)) → (coming_from Body k n ls).fault ≡ None → Tail k n ls (coming_from Body k n ls)
@@ -204,8 +204,8 @@ count-from_none m None h = tt
 count-from_none m (Some e) h = (h.0, let n = h.1 in omega arith)
 
 -- a header, or anything else, and then the tail
-file-headed : (l : List ℕ) (ls : List (List ℕ)) (ds : List ℕ) (c : Coming) → line_of l ≡ Ok (header ds) → Tail 0 1 ls c → FileOf (l ∷ ls) c
-file-headed l ls ds c e t =
+file_headed : (l : List ℕ) (ls : List (List ℕ)) (ds : List ℕ) (c : Coming) → line_of l ≡ Ok (header ds) → Tail 0 1 ls c → FileOf (l ∷ ls) c
+file_headed l ls ds c e t =
     let r = read_as l (header ds) e in
     record {
       file = record { header = Some r.entry; records = t.records; count = t.count; end = t.last };
@@ -214,8 +214,8 @@ file-headed l ls ds c e t =
       hands = t.hands;
     }
 
-file-bare : (ls : List (List ℕ)) (c : Coming) → Tail 0 0 ls c → FileOf ls c
-file-bare ls c t = record {
+file_bare : (ls : List (List ℕ)) (c : Coming) → Tail 0 0 ls c → FileOf ls c
+file_bare ls c t = record {
   file = record { header = None; records = t.records; count = t.count; end = t.last };
   is = record { header = tt; records = t.are; count = count-from_none (length t.records) t.count t.counts; end = t.ends };
   lines = t.lines;
@@ -223,9 +223,9 @@ file-bare ls c t = record {
 }
 
 -- but for a header, the first line is read as any other
-start-body : (k n : ℕ) (l : List ℕ) (ls : List (List ℕ)) (c : Content) → line_of l ≡ Ok c → (kind_of c ≡ Header → ⊥) → coming_from Start k n (l ∷ ls) ≡ coming_from Body k n (l ∷ ls)
+start_body : (k n : ℕ) (l : List ℕ) (ls : List (List ℕ)) (c : Content) → line_of l ≡ Ok c → (kind_of c ≡ Header → ⊥) → coming_from Start k n (l ∷ ls) ≡ coming_from Body k n (l ∷ ls)
 unfolding coming_from
-start-body k n l ls c e h = ap (leads_to (n + 1) (λ q j. coming_from q j (n + 1) ls) k) (ap (step_of Start k) e ∙ same c h ∙ sym (ap (step_of Body k) e))
+start_body k n l ls c e h = ap (leads_to (n + 1) (λ q j. coming_from q j (n + 1) ls) k) (ap (step_of Start k) e ∙ same c h ∙ sym (ap (step_of Body k) e))
   where
     same : (c : Content) → (kind_of c ≡ Header → ⊥) → step_of Start k (Ok c) ≡ step_of Body k (Ok c)
     same (header ds) h = absurd (h refl)
@@ -233,9 +233,9 @@ start-body k n l ls c e h = ap (leads_to (n + 1) (λ q j. coming_from q j (n + 1
     same (count_is m) h = refl
     same end h = refl
 
-start-header : (l : List ℕ) (ls : List (List ℕ)) (ds : List ℕ) → line_of l ≡ Ok (header ds) → coming_from Start 0 0 (l ∷ ls) ≡ coming_from Body 0 1 ls
+start_header : (l : List ℕ) (ls : List (List ℕ)) (ds : List ℕ) → line_of l ≡ Ok (header ds) → coming_from Start 0 0 (l ∷ ls) ≡ coming_from Body 0 1 ls
 unfolding coming_from
-start-header l ls ds e = ap (λ r. leads_to 1 (λ q j. coming_from q j 1 ls) 0 (step_of Start 0 r)) e
+start_header l ls ds e = ap (λ r. leads_to 1 (λ q j. coming_from q j 1 ls) 0 (step_of Start 0 r)) e
 
 data_header : Data ≡ Header → ⊥
 data_header e = let z : ◌≡◌ {A = ℕ} 0 1 = cc in omega arith
@@ -249,17 +249,17 @@ end-header e = let z : ◌≡◌ {A = ℕ} 0 1 = cc in omega arith
 at-start : (l : List ℕ) (ls : List (List ℕ)) (r : Result Content Fault) → line_of l ≡ r → (coming_from Start 0 0 (l ∷ ls)).fault ≡ None → FileOf (l ∷ ls) (coming_from Start 0 0 (l ∷ ls))
 at-start l ls (Err f) e h = absurd (some-none (sym (ap (λ c. c.fault) (coming_fault Start 0 0 l ls f e)) ∙ h))
 at-start l ls (Ok (header ds)) e h =
-    let on = start-header l ls ds e in
-    subst (FileOf (l ∷ ls)) (sym on) (file-headed l ls ds _ e (body 0 1 ls (sym (ap (λ c. c.fault) on) ∙ h)))
+    let on = start_header l ls ds e in
+    subst (FileOf (l ∷ ls)) (sym on) (file_headed l ls ds _ e (body 0 1 ls (sym (ap (λ c. c.fault) on) ∙ h)))
 at-start l ls (Ok (record_at a ds)) e h =
-    let on = start-body 0 0 l ls (record_at a ds) e data_header in
-    subst (FileOf (l ∷ ls)) (sym on) (file-bare (l ∷ ls) _ (body 0 0 (l ∷ ls) (sym (ap (λ c. c.fault) on) ∙ h)))
+    let on = start_body 0 0 l ls (record_at a ds) e data_header in
+    subst (FileOf (l ∷ ls)) (sym on) (file_bare (l ∷ ls) _ (body 0 0 (l ∷ ls) (sym (ap (λ c. c.fault) on) ∙ h)))
 at-start l ls (Ok (count_is m)) e h =
-    let on = start-body 0 0 l ls (count_is m) e count-header in
-    subst (FileOf (l ∷ ls)) (sym on) (file-bare (l ∷ ls) _ (body 0 0 (l ∷ ls) (sym (ap (λ c. c.fault) on) ∙ h)))
+    let on = start_body 0 0 l ls (count_is m) e count-header in
+    subst (FileOf (l ∷ ls)) (sym on) (file_bare (l ∷ ls) _ (body 0 0 (l ∷ ls) (sym (ap (λ c. c.fault) on) ∙ h)))
 at-start l ls (Ok end) e h =
-    let on = start-body 0 0 l ls end e end-header in
-    subst (FileOf (l ∷ ls)) (sym on) (file-bare (l ∷ ls) _ (body 0 0 (l ∷ ls) (sym (ap (λ c. c.fault) on) ∙ h)))
+    let on = start_body 0 0 l ls end e end-header in
+    subst (FileOf (l ∷ ls)) (sym on) (file_bare (l ∷ ls) _ (body 0 0 (l ∷ ls) (sym (ap (λ c. c.fault) on) ∙ h)))
 
 start : (ls : List (List ℕ)) → (coming_from Start 0 0 ls).fault ≡ None → FileOf ls (coming_from Start 0 0 ls)
 unfolding coming_from
@@ -267,10 +267,10 @@ start [] h = absurd (some-none h)
 start (l ∷ ls) h = at-start l ls (line_of l) refl h
 
 -- a text that is read to its end writes a file, whose records are handed out
-pub file-sound : (text : List ℕ) → (coming_of text).fault ≡ None → (f : File) × WritesFile f text × HandsFile (coming_of text).records f
-file-sound text h =
+pub file_sound : (text : List ℕ) → (coming_of text).fault ≡ None → (f : File) × WritesFile f text × HandsFile (coming_of text).records f
+file_sound text h =
     let r = start (lines_of text) h in
-    (r.file, (r.is, lines-text (entries r.file) text r.lines), r.hands)
+    (r.file, (r.is, lines_text (entries r.file) text r.lines), r.hands)
 
 -- ---- a file that is written is read to its end
 
@@ -286,25 +286,25 @@ end-complete p k n e (l ∷ []) on is w =
 end-complete p k n e (l ∷ m ∷ ls) on is w = absurd w.1
 
 -- the data lines, the count and the end, each in its turn
-body-complete : (es : List Entry) (o : Option Entry) (last : Entry) (k n : ℕ) (ls : List (List ℕ)) → AllByRecursion (IsEntry Data) es → IfSome o (λ e. IsEntry Count e × (number e.address ≡ k + length es)) → IsEntry End last → EachLine (es ++ (option_to_list o ++ last ∷ [])) ls → ((coming_from Body k n ls).fault ≡ None) × HandsAll n (coming_from Body k n ls).records es
-body-complete [] None last k n ls are counts ends w =
+body_complete : (es : List Entry) (o : Option Entry) (last : Entry) (k n : ℕ) (ls : List (List ℕ)) → AllByRecursion (IsEntry Data) es → IfSome o (λ e. IsEntry Count e × (number e.address ≡ k + length es)) → IsEntry End last → EachLine (es ++ (option_to_list o ++ last ∷ [])) ls → ((coming_from Body k n ls).fault ≡ None) × HandsAll n (coming_from Body k n ls).records es
+body_complete [] None last k n ls are counts ends w =
     let on = end-complete Body k n last ls refl ends w in
     (ap (λ c. c.fault) on, subst (λ (c : Coming). HandsAll n c.records []) (sym on) tt)
-body-complete [] (Some c) last k n [] are counts ends w = absurd w
-body-complete [] (Some c) last k n (l ∷ ls) are counts ends w =
+body_complete [] (Some c) last k n [] are counts ends w = absurd w
+body_complete [] (Some c) last k n (l ∷ ls) are counts ends w =
     let r = line_reads Count c counts.0 l w.0 in
     let value = counts.1 in
     let right : number c.address ≡ k = omega arith in
     let on = coming_step Body k n l ls (pass Counted) (ap (step_of Body k) r.1 ∙ ap (step_to (count_is (number c.address))) (cond-true (eqb (number c.address) k) _ _ (eq-eqb _ k right))) ∙ end-complete Counted k (n + 1) last ls refl ends w.1 in
     (ap (λ c. c.fault) on, subst (λ (c : Coming). HandsAll n c.records []) (sym on) tt)
-body-complete (e ∷ es) o last k n [] are counts ends w = absurd w
-body-complete (e ∷ es) o last k n (l ∷ ls) are counts ends w =
+body_complete (e ∷ es) o last k n [] are counts ends w = absurd w
+body_complete (e ∷ es) o last k n (l ∷ ls) are counts ends w =
     let r = line_reads Data e are.0 l w.0 in
     let on = coming_handed Body k n l ls (number e.address) r.0 Body r.1 refl in
     let more : length (e ∷ es) ≡ length es + 1 = omega arith in
-    let rest = body-complete es o last (k + 1) (n + 1) ls are.1 (count_less k (length es) o (subst (λ (m : ℕ). IfSome o (λ e. IsEntry Count e × (number e.address ≡ k + m))) more counts)) ends w.1 in (
+    let rest = body_complete es o last (k + 1) (n + 1) ls are.1 (count_less k (length es) o (subst (λ (m : ℕ). IfSome o (λ e. IsEntry Count e × (number e.address ≡ k + m))) more counts)) ends w.1 in (
       ap (λ c. c.fault) on ∙ rest.0,
-      subst (λ (c : Coming). HandsAll n c.records (e ∷ es)) (sym on) (record { line = refl; address = refl; bytes = entry-decoded are.0 r.0 r.2 }, rest.1),
+      subst (λ (c : Coming). HandsAll n c.records (e ∷ es)) (sym on) (record { line = refl; address = refl; bytes = entry_decoded are.0 r.0 r.2 }, rest.1),
     )
   where
     count_less : (k m : ℕ) (o : Option Entry) → IfSome o (λ e. IsEntry Count e × (number e.address ≡ k + (m + 1))) → IfSome o (λ e. IsEntry Count e × (number e.address ≡ k + 1 + m))
@@ -312,50 +312,50 @@ body-complete (e ∷ es) o last k n (l ∷ ls) are counts ends w =
     count_less k m (Some e) h = (h.0, let n = h.1 in omega arith)
 
 -- without a header, the file begins with a line that is read as any other
-bare-start : (es : List Entry) (o : Option Entry) (last : Entry) (ls : List (List ℕ)) → AllByRecursion (IsEntry Data) es → IfSome o (λ e. IsEntry Count e × (number e.address ≡ length es)) → IsEntry End last → EachLine (es ++ (option_to_list o ++ last ∷ [])) ls → coming_from Start 0 0 ls ≡ coming_from Body 0 0 ls
-bare-start [] None last [] are counts ends w = absurd w
-bare-start [] None last (l ∷ ls) are counts ends w = start-body 0 0 l ls end (line_reads End last ends l w.0).1 end-header
-bare-start [] (Some c) last [] are counts ends w = absurd w
-bare-start [] (Some c) last (l ∷ ls) are counts ends w = start-body 0 0 l ls _ (line_reads Count c counts.0 l w.0).1 count-header
-bare-start (e ∷ es) o last [] are counts ends w = absurd w
-bare-start (e ∷ es) o last (l ∷ ls) are counts ends w = start-body 0 0 l ls _ (line_reads Data e are.0 l w.0).1 data_header
+bare_start : (es : List Entry) (o : Option Entry) (last : Entry) (ls : List (List ℕ)) → AllByRecursion (IsEntry Data) es → IfSome o (λ e. IsEntry Count e × (number e.address ≡ length es)) → IsEntry End last → EachLine (es ++ (option_to_list o ++ last ∷ [])) ls → coming_from Start 0 0 ls ≡ coming_from Body 0 0 ls
+bare_start [] None last [] are counts ends w = absurd w
+bare_start [] None last (l ∷ ls) are counts ends w = start_body 0 0 l ls end (line_reads End last ends l w.0).1 end-header
+bare_start [] (Some c) last [] are counts ends w = absurd w
+bare_start [] (Some c) last (l ∷ ls) are counts ends w = start_body 0 0 l ls _ (line_reads Count c counts.0 l w.0).1 count-header
+bare_start (e ∷ es) o last [] are counts ends w = absurd w
+bare_start (e ∷ es) o last (l ∷ ls) are counts ends w = start_body 0 0 l ls _ (line_reads Data e are.0 l w.0).1 data_header
 
 from_none : (m : ℕ) (o : Option Entry) → IfSome o (λ e. IsEntry Count e × (number e.address ≡ m)) → IfSome o (λ e. IsEntry Count e × (number e.address ≡ 0 + m))
 from_none m None h = tt
 from_none m (Some e) h = (h.0, let n = h.1 in omega arith)
 
 -- the lines of a file are read to their end, and its records are handed out
-lines-complete : (h : Option Entry) (es : List Entry) (o : Option Entry) (last : Entry) (ls : List (List ℕ)) → IfSome h (IsEntry Header) → AllByRecursion (IsEntry Data) es → IfSome o (λ e. IsEntry Count e × (number e.address ≡ length es)) → IsEntry End last → EachLine (option_to_list h ++ (es ++ (option_to_list o ++ last ∷ []))) ls → ((coming_from Start 0 0 ls).fault ≡ None) × HandsAll (length (option_to_list h)) (coming_from Start 0 0 ls).records es
-lines-complete None es o last ls head are counts ends w =
-    let on = bare-start es o last ls are counts ends w in
-    let rest = body-complete es o last 0 0 ls are (from_none (length es) o counts) ends w in
+lines_complete : (h : Option Entry) (es : List Entry) (o : Option Entry) (last : Entry) (ls : List (List ℕ)) → IfSome h (IsEntry Header) → AllByRecursion (IsEntry Data) es → IfSome o (λ e. IsEntry Count e × (number e.address ≡ length es)) → IsEntry End last → EachLine (option_to_list h ++ (es ++ (option_to_list o ++ last ∷ []))) ls → ((coming_from Start 0 0 ls).fault ≡ None) × HandsAll (length (option_to_list h)) (coming_from Start 0 0 ls).records es
+lines_complete None es o last ls head are counts ends w =
+    let on = bare_start es o last ls are counts ends w in
+    let rest = body_complete es o last 0 0 ls are (from_none (length es) o counts) ends w in
     (ap (λ c. c.fault) on ∙ rest.0, subst (λ (c : Coming). HandsAll 0 c.records es) (sym on) rest.1)
-lines-complete (Some x) es o last [] head are counts ends w = absurd w
-lines-complete (Some x) es o last (l ∷ ls) head are counts ends w =
-    let on = start-header l ls _ (line_reads Header x head l w.0).1 in
-    let rest = body-complete es o last 0 1 ls are (from_none (length es) o counts) ends w.1 in
+lines_complete (Some x) es o last [] head are counts ends w = absurd w
+lines_complete (Some x) es o last (l ∷ ls) head are counts ends w =
+    let on = start_header l ls _ (line_reads Header x head l w.0).1 in
+    let rest = body_complete es o last 0 1 ls are (from_none (length es) o counts) ends w.1 in
     (ap (λ c. c.fault) on ∙ rest.0, subst (λ (c : Coming). HandsAll 1 c.records es) (sym on) rest.1)
 
 -- ---- every line of a file is a line
 
-option-lines : (k : Kind) (o : Option Entry) → IfSome o (IsEntry k) → Lines (option_to_list o)
-option-lines k None h = tt
-option-lines k (Some e) h = ((k, h), tt)
+option_lines : (k : Kind) (o : Option Entry) → IfSome o (IsEntry k) → Lines (option_to_list o)
+option_lines k None h = tt
+option_lines k (Some e) h = ((k, h), tt)
 
 count-line : (m : ℕ) (o : Option Entry) → IfSome o (λ e. IsEntry Count e × (number e.address ≡ m)) → IfSome o (IsEntry Count)
 count-line m None h = tt
 count-line m (Some e) h = h.0
 
-file-lines : (f : File) → IsFile f → Lines (entries f)
-file-lines f is =
-    All-append Line (option_to_list f.header) _ (option-lines Header f.header is.header)
+file_lines : (f : File) → IsFile f → Lines (entries f)
+file_lines f is =
+    All-append Line (option_to_list f.header) _ (option_lines Header f.header is.header)
     (All-append Line f.records _ (All-weaker (IsEntry Data) Line (λ e h. (Data, h)) f.records is.records)
-    (All-append Line (option_to_list f.count) (f.end ∷ []) (option-lines Count f.count (count-line (length f.records) f.count is.count)) ((End, is.end), tt)))
+    (All-append Line (option_to_list f.count) (f.end ∷ []) (option_lines Count f.count (count-line (length f.records) f.count is.count)) ((End, is.end), tt)))
   where
     Line : Entry → Type 0
     Line e = (k : Kind) × IsEntry k e
 
 -- a text that writes a file is read to its end, and the file's records are handed out
-pub file-complete : (f : File) (text : List ℕ) → WritesFile f text → ((coming_of text).fault ≡ None) × HandsFile (coming_of text).records f
-file-complete f text w =
-    lines-complete f.header f.records f.count f.end (lines_of text) w.0.header w.0.records w.0.count w.0.end (text_lines (entries f) text (file-lines f w.0) w.1)
+pub file_complete : (f : File) (text : List ℕ) → WritesFile f text → ((coming_of text).fault ≡ None) × HandsFile (coming_of text).records f
+file_complete f text w =
+    lines_complete f.header f.records f.count f.end (lines_of text) w.0.header w.0.records w.0.count w.0.end (text_lines (entries f) text (file_lines f w.0) w.1)

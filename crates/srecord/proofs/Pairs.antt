@@ -128,8 +128,8 @@ bytes_small (x ∷ y ∷ cs) bs e =
     let p = bytes-uncons x y cs bs e in
     subst (AllByRecursion (λ b. b < 256)) (sym p.4) (subst (mapped_below 256) p.2 (pair_small x y), bytes_small cs p.1 p.3)
 
-two-more : (k : ℕ) → 2 * suc k ≡ suc (suc (2 * k))
-two-more k = omega arith
+two_more : (k : ℕ) → 2 * suc k ≡ suc (suc (2 * k))
+two_more k = omega arith
 
 -- the bytes from the k-th pair on
 pub bytes_drop : (k : ℕ) (cs bs : List ℕ) → bytes_of cs ≡ Some bs → bytes_of (drop (2 * k) cs) ≡ Some (drop k bs)
@@ -140,7 +140,7 @@ bytes_drop (suc k) [] bs e =
 bytes_drop (suc k) (x ∷ []) bs e = absurd (bytes-odd x bs e)
 bytes_drop (suc k) (x ∷ y ∷ cs) bs e =
     let p = bytes-uncons x y cs bs e in
-    ap (λ n. bytes_of (drop n (x ∷ y ∷ cs))) (two-more k) ∙ bytes_drop k cs p.1 p.3
+    ap (λ n. bytes_of (drop n (x ∷ y ∷ cs))) (two_more k) ∙ bytes_drop k cs p.1 p.3
     ∙ ap (λ (l : List ℕ). Some (drop (suc k) l)) (sym p.4)
 
 -- the bytes of the first k pairs
@@ -153,7 +153,7 @@ bytes_take (suc k) [] bs e =
 bytes_take (suc k) (x ∷ []) bs e = absurd (bytes-odd x bs e)
 bytes_take (suc k) (x ∷ y ∷ cs) bs e =
     let p = bytes-uncons x y cs bs e in
-    ap (λ n. bytes_of (take n (x ∷ y ∷ cs))) (two-more k)
+    ap (λ n. bytes_of (take n (x ∷ y ∷ cs))) (two_more k)
     ∙ (λ i. in_front (p.2 i) (bytes_take k cs p.1 p.3 i))
     ∙ ap (λ (l : List ℕ). Some (take (suc k) l)) (sym p.4)
 

@@ -52,12 +52,12 @@ ends-line tail rest es (inr (inr e)) w =
     ([], e.0 ∙ sym e.1, inr (inr (refl, each_none es (subst (EachLine es) (ap lines_of e.1 ∙ lines_of-nil) w))))
 
 -- a text writes the lines that its lines are the texts of
-pub lines-text : (es : List Entry) (text : List ℕ) → EachLine es (lines_of text) → WritesText es text
-lines-text [] [] w = refl
-lines-text [] (b ∷ text) w = absurd (subst (EachLine []) (cut b text).lines w)
-lines-text (e ∷ es) [] w = absurd (subst (EachLine (e ∷ es)) lines_of-nil w)
-lines-text (e ∷ es) (b ∷ text) w =
+pub lines_text : (es : List Entry) (text : List ℕ) → EachLine es (lines_of text) → WritesText es text
+lines_text [] [] w = refl
+lines_text [] (b ∷ text) w = absurd (subst (EachLine []) (cut b text).lines w)
+lines_text (e ∷ es) [] w = absurd (subst (EachLine (e ∷ es)) lines_of-nil w)
+lines_text (e ∷ es) (b ∷ text) w =
     let c = cut b text in
     let each = subst (EachLine (e ∷ es)) c.lines w in
     let end = ends-line c.tail c.rest es c.ends each.1 in
-    (c.line, end.0, c.rest, c.whole ∙ ap (λ t. c.line ++ t) end.1, each.0, end.2, lines-text es c.rest each.1)
+    (c.line, end.0, c.rest, c.whole ∙ ap (λ t. c.line ++ t) end.1, each.0, end.2, lines_text es c.rest each.1)

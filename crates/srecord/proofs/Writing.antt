@@ -283,8 +283,8 @@ module _ (t : ℕ) (f : Form) (type : form_of t ≡ Some f) (n : ℕ) (bs : List
   last_small = let room = p.room in All-get_or (λ b. b < 256) bs (length bs - 1) 0 (omega arith) p.small.1
 
 -- what a count that fits says
-fits-parts : (f : Form) (n m : ℕ) → count_fits f n m ≡ true → (n ≡ m) × (f.width < m) × (carries_data f.kind ≡ false → m ≡ f.width + 1)
-fits-parts f n m h =
+fits_parts : (f : Form) (n m : ℕ) → count_fits f n m ≡ true → (n ≡ m) × (f.width < m) × (carries_data f.kind ≡ false → m ≡ f.width + 1)
+fits_parts f n m h =
     let p = and_parts (eqb n m) _ h in
     let q = and_parts (ltb f.width m) _ p.1 in
     (eqb-true n m p.0, ltb-true f.width m q.0, λ none. eqb-true m (f.width + 1) (sym (ap (λ b. b || eqb m (f.width + 1)) none) ∙ q.1))
@@ -304,7 +304,7 @@ unfolding entry last
 shaped_written [] p = absurd p
 shaped_written (s ∷ []) p = absurd p
 shaped_written (s ∷ t ∷ ds) p =
-    let q = fits-parts p.form p.count (length p.body) p.fits in
+    let q = fits_parts p.form p.count (length p.body) p.fits in
     let bytes : Parts p.form p.count p.body = record { count = q.0; room = q.1; bare = q.2; small = bytes_small ds (p.count ∷ p.body) p.spells } in
     record {
       kind = p.form.kind;

@@ -1,7 +1,7 @@
 use Rattle.std.proofs.Common.{length, ap, ◌∙◌}
 use Rattle.memory.specs.Crossing.{crossed_contents}
 use Rattle.memory.proofs.Answering.{length-after_clear}
-use Rattle.memory.specs.Crossings.{after_clear_crossed, same-crossed}
+use Rattle.memory.specs.Crossings.{after_clear_crossed, same_crossed}
 use Rattle.memory.proofs.crossing.CrossingWritablePart.clear.Goals as goal
 
 pub returns : goal.returns
@@ -11,5 +11,5 @@ returns g c =
     record {
       answer = c.clear.ensures.answer;
       after = ap crossed_contents c.clear.ensures.after ∙ after_clear_crossed xs s c.args.unit;
-      same = same-crossed _ _ _ _ (ap length c.clear.ensures.after ∙ length-after_clear s xs c.args.unit) c.clear.ensures.same;
+      same = same_crossed _ _ _ _ (ap length c.clear.ensures.after ∙ length-after_clear s xs c.args.unit) c.clear.ensures.same;
     }

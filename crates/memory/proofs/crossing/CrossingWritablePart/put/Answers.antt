@@ -2,7 +2,7 @@ use Rattle.std.proofs.Common.{◌≡◌, length, sym, ap, ◌∙◌}
 use Rattle.memory.specs.Calls.{put_answer, after_put}
 use Rattle.memory.specs.Crossing.{crossed, crossed_contents}
 use Rattle.memory.proofs.Answering.{length-after_put}
-use Rattle.memory.specs.Crossings.{put_crossed, after_put_crossed, same-crossed}
+use Rattle.memory.specs.Crossings.{put_crossed, after_put_crossed, same_crossed}
 use Rattle.memory.proofs.crossing.CrossingWritablePart.put.Goals as goal
 
 pub returns : goal.returns
@@ -15,5 +15,5 @@ returns g c =
     record {
       answer = c.put.ensures.answer ∙ ap (λ p. put_answer s xs p v) place ∙ sym (put_crossed xs o s v);
       after = ap crossed_contents (c.put.ensures.after ∙ ap (λ p. after_put s xs p v) place) ∙ after_put_crossed xs o s v;
-      same = same-crossed _ _ _ _ (ap length c.put.ensures.after ∙ length-after_put s xs c.across-place.result v) c.put.ensures.same;
+      same = same_crossed _ _ _ _ (ap length c.put.ensures.after ∙ length-after_put s xs c.across-place.result v) c.put.ensures.same;
     }
