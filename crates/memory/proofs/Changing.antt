@@ -1,10 +1,11 @@
 -- Laws of changes made in their order. Assumes nothing.
-use Rattle.std.proofs.Common.{◌≡◌, ℕ, ◌<◌, true, false, List, [], ◌∷◌, ◌++◌, length, get_or, set, sym, refl, ap, ◌∙◌, inl, inr, arith}
-use Rattle.std.proofs.lemmas.List.{length-set, get_or-set_same, get_or-set_other, get_or_past}
-use Rattle.std.proofs.lemmas.Bool.{cases_lt, eqb-true, eqb-false, cond-true, cond-false}
+use Rattle.std.proofs.Common.{◌≡◌, ℕ, ◌<◌, true, false, List, [], ◌∷◌, ◌++◌, length, get_or, refl, ap, ◌∙◌, arith}
+use Rattle.std.proofs.lemmas.List.{length-set, get_or-set_other, get_or_past}
+use Rattle.std.proofs.lemmas.Grind.{get_or-set_at}
+use Rattle.std.proofs.lemmas.Bool.Decides.{nat_tests}
 use Rattle.memory.specs.Part.{Shape}
-use Rattle.memory.specs.Changes.{Change, put, clear, cleared_unit, changed, changed_all, covers, left, Untouched, ByLast}
-use Rattle.memory.specs.Clearing.{length-cleared, get_or-cleared}
+use Rattle.memory.specs.Changes.{Change, put, clear, changed, changed_all, covers, left, Untouched, ByLast}
+use Rattle.memory.proofs.Clearing.{length-cleared, get_or-cleared}
 
 module _ (s : Shape) where
   pub changed_all-++ : (cs ds : List Change) (xs : List ℕ) → changed_all s (cs ++ ds) xs ≡ changed_all s ds (changed_all s cs xs)
@@ -22,17 +23,12 @@ module _ (s : Shape) where
   length-changed_all (c ∷ cs) xs = length-changed_all cs (changed s c xs) ∙ length_changed c xs
 
   changed_elsewhere : (c : Change) (xs : List ℕ) (o : ℕ) → covers s o c ≡ false → get_or (changed s c xs) o 0 ≡ get_or xs o 0
-  changed_elsewhere (put p v) xs o e = get_or-set_other xs p o v 0 (eqb-false o p e)
-  changed_elsewhere (clear u) xs o e = elim (cases_lt o (length xs)) [
-    | inl h ↦ get_or-cleared s.unit_of u xs o h ∙ cond-false _ 255 (get_or xs o 0) e
-    | inr h ↦ let n = length-cleared s.unit_of u xs in get_or_past (cleared_unit s.unit_of u xs) o 0 (omega arith) ∙ sym (get_or_past xs o 0 h)
-  ]
+  changed_elsewhere (put p v) xs o e = grind (arith, nat_tests, get_or-set_other)
+  changed_elsewhere (clear u) xs o e = grind (arith, nat_tests, get_or-cleared, length-cleared, get_or_past)
 
   changed_here : (c : Change) (xs : List ℕ) (o : ℕ) → o < length xs → covers s o c ≡ true → get_or (changed s c xs) o 0 ≡ left c
-  changed_here (put p v) xs o h e =
-      let q = eqb-true o p e in
-      ap (λ k. get_or (set xs p v) k 0) q ∙ get_or-set_same xs p v 0 (omega arith)
-  changed_here (clear u) xs o h e = get_or-cleared s.unit_of u xs o h ∙ cond-true _ 255 (get_or xs o 0) e
+  changed_here (put p v) xs o h e = grind (arith, nat_tests, get_or-set_at)
+  changed_here (clear u) xs o h e = grind (arith, nat_tests, get_or-cleared)
 
   changed_all-elsewhere : (cs : List Change) (xs : List ℕ) (o : ℕ) → Untouched s o cs → get_or (changed_all s cs xs) o 0 ≡ get_or xs o 0
   unfolding changed_all

@@ -1,6 +1,8 @@
 pub mod Answering
 pub mod Blanks
 pub mod Changing
+pub mod Clearing
+pub mod Crossings
 pub mod Cuts
 pub mod Linear
 pub mod Samples

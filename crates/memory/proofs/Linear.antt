@@ -3,6 +3,7 @@
 use Rattle.std.proofs.Common.{◌≡◌, ℕ, zero, suc, ◌*◌, ◌/◌, ◌%◌, ◌<◌, cond, eqb, sym, refl, ap, ◌∙◌, ap₂, mod-lt, mul_assoc, div-add-mod', mul-div_cancel, arith, lit<}
 use native.Mathlib.Nat.{mul-mod_left}
 use lib.Bits.{bit_xor, xor_assoc, xor_comm, xor_mod, xor_shifted, xor_shr, xor_zero_r}
+use Rattle.std.proofs.lemmas.Bool.Decides.{nat_tests}
 use Rattle.memory.specs.Crc.{crc_bit, crc_bits, crc_zeros}
 
 -- f of a xor is the xor of what f makes of both
@@ -25,26 +26,14 @@ abbrev taken : ℕ → ℕ
 taken p = cond (eqb p 1) 0xA001 0
 
 taken-xor : (p q : ℕ) → p < 2 → q < 2 → taken (bit_xor p q) ≡ bit_xor (taken p) (taken q)
-taken-xor zero q lp lq = refl
-taken-xor (suc zero) zero lp lq = refl
-taken-xor (suc zero) (suc zero) lp lq = refl
-taken-xor (suc zero) (suc (suc q)) lp lq = absurd (omega arith)
-taken-xor (suc (suc p)) q lp lq = absurd (omega arith)
+taken-xor p q lp lq = grind (arith, nat_tests)
 
 crc_bit-taken : (c : ℕ) → crc_bit c ≡ bit_xor (c / 2) (taken (c % 2))
-crc_bit-taken c = go (c % 2) (c / 2) (mod-lt c (lit< tt))
-  where
-    go : (p h : ℕ) → p < 2 → cond (eqb p 1) (bit_xor h 0xA001) h ≡ bit_xor h (taken p)
-    go zero h l = sym (xor_zero_r h)
-    go (suc zero) h l = refl
-    go (suc (suc p)) h l = absurd (omega arith)
+crc_bit-taken c = grind (arith, nat_tests, xor_zero_r)
 
 -- the two in the middle change places
 exchange : (a b c d : ℕ) → bit_xor (bit_xor a b) (bit_xor c d) ≡ bit_xor (bit_xor a c) (bit_xor b d)
-exchange a b c d =
-    xor_assoc a b (bit_xor c d)
-    ∙ ap (bit_xor a) (sym (xor_assoc b c d) ∙ ap (λ m. bit_xor m d) (xor_comm b c) ∙ xor_assoc c b d)
-    ∙ sym (xor_assoc a c (bit_xor b d))
+exchange a b c d = grind (arith, xor_assoc, xor_comm)
 
 crc_bit-xor : Linear crc_bit
 crc_bit-xor x y =

@@ -1,20 +1,24 @@
 -- Bytes that are read one by one, and every 128th address of a part. Assumes nothing.
-use Rattle.std.proofs.Common.{◌≡◌, ℕ, zero, suc, ◌+◌, ◌-◌, ◌*◌, ◌/◌, ◌%◌, ◌<◌, ◌≤◌, min, cond, List, [], ◌∷◌, ◌++◌, length, get_or, take, drop, ap, ◌∙◌, append-nil, mul-le-mul_right, add-mul, one-mul, arith}
-use Rattle.std.proofs.lemmas.Nat.{div-add-mod'}
-use Rattle.std.proofs.lemmas.List.{drop_more}
-use Rattle.std.proofs.lemmas.Bool.{eq-eqb, ne_eqb}
+use Rattle.std.proofs.Common.{◌≡◌, ℕ, zero, suc, ◌+◌, ◌-◌, ◌*◌, ◌/◌, ◌%◌, ◌<◌, ◌≤◌, min, cond, List, [], ◌++◌, map, length, fold, get_or, take, drop, sym, refl, ap, ◌∙◌, append-nil, arith}
+use Rattle.std.specs.List.{range_with_len}
+use Rattle.std.proofs.lemmas.List.{ext_get_or, length-take-le, length-drop, get_or-take, get_or-drop}
+use Rattle.std.proofs.lemmas.List.FromFn.{fill_by_all, map-range_with_len_more}
+use Rattle.std.proofs.lemmas.Bool.{ne_eqb}
+use Rattle.std.proofs.lemmas.Bool.Decides.{nat_tests}
+use Rattle.std.proofs.iter.runs.Lists.{fold-append}
+use Rattle.memory.specs.Crc.{crc_byte, crc_from}
 use Rattle.memory.specs.Seal.{address_bytes, sampled}
 
--- the first of the bytes from offset i on and below offset e
-pub part_more : (xs : List ℕ) (i e : ℕ) → i < length xs → i < e → take (e - i) (drop i xs) ≡ get_or xs i 0 ∷ take (e - (i + 1)) (drop (i + 1) xs)
-part_more xs i e h l =
-    let n : e - i ≡ suc (e - (i + 1)) = omega arith in
-    ap (λ k. take k (drop i xs)) n ∙ ap (take (suc (e - (i + 1)))) (drop_more xs i 0 h)
+-- bytes that are those from offset a on, one by one
+pub same_bytes : (xs ys : List ℕ) (a : ℕ) → a + length ys ≤ length xs → ((k : ℕ) → k < length ys → get_or ys k 0 ≡ get_or xs (a + k) 0) → ys ≡ take (length ys) (drop a xs)
+same_bytes xs ys a h at =
+    ext_get_or 0 ys _ (sym (length-take-le (length ys) (drop a xs) (omega (arith, length-drop a xs))))
+    (λ k l. at k l ∙ sym (get_or-take (length ys) (drop a xs) k 0 l ∙ get_or-drop a xs k 0))
 
 module _ (w : ℕ) (xs : List ℕ) where
   sampled_here : (a : ℕ) → a % 128 ≡ 0 → sampled w xs (suc a) ≡ sampled w xs a ++ address_bytes w xs a
   unfolding sampled
-  sampled_here a e = ap (λ b. sampled w xs a ++ cond b (address_bytes w xs a) []) (eq-eqb (a % 128) 0 e)
+  sampled_here a e = grind (arith, nat_tests)
 
   sampled_between : (a k : ℕ) → a % 128 ≡ 0 → k < 128 → sampled w xs (suc (a + k)) ≡ sampled w xs (suc a)
   unfolding sampled
@@ -32,11 +36,23 @@ module _ (w : ℕ) (xs : List ℕ) where
       let m : min (a + 128) n ≡ suc (a + k) = omega arith in
       ap (sampled w xs) m ∙ sampled_between a k e (omega arith) ∙ sampled_here a e
 
+  -- the CRC with the bytes of an address more
+  abbrev pub with_address : ℕ → ℕ → ℕ
+  with_address c a = crc_from c (address_bytes w xs a)
+
+  over_strides : (m n : ℕ) → m * 128 < n + 128 → fold with_address 0xFFFF (map (λ k. k * 128) (range_with_len 0 m)) ≡ crc_from 0xFFFF (sampled w xs (min (m * 128) n))
+  unfolding sampled
+  over_strides zero n h = grind arith
+  over_strides (suc m) n h =
+      grind (arith, over_strides m n, map-range_with_len_more (λ k. k * 128) 0 m m, fold-append with_address 0xFFFF, fold-append crc_byte 0xFFFF (sampled w xs (m * 128)), sampled_more (m * 128) n)
+
+  -- the CRC over the addresses zs, which are every 128th below n
+  pub crc_from-sampled : (n : ℕ) (zs : List ℕ) → n ≤ length zs * 128 → length zs * 128 < n + 128 → ((k : ℕ) → k < length zs → get_or zs k 0 ≡ k * 128)
+      → fold with_address 0xFFFF zs ≡ crc_from 0xFFFF (sampled w xs n)
+  crc_from-sampled n zs le lt at =
+      let all : min (length zs * 128) n ≡ n = omega arith in
+      ap (fold with_address 0xFFFF) (fill_by_all (λ k. k * 128) zs (length zs) 0 refl at) ∙ over_strides (length zs) n lt ∙ ap (λ k. crc_from 0xFFFF (sampled w xs k)) all
+
 -- an address that is one of those that lie whole in a part
 pub whole-inside : (a n w : ℕ) → a < n / w → a * w + w ≤ n
-whole-inside a n w h =
-    let e = add-mul a 1 w in
-    let f = one-mul w in
-    let m = mul-le-mul_right {m = a + 1} {n = n / w} w (omega arith) in
-    let d = div-add-mod' n w in
-    omega arith
+whole-inside a n w h = grind arith

@@ -1,48 +1,32 @@
 -- Equal sectors, counted from the highest offsets down. Assumes nothing.
-use Rattle.std.proofs.Common.{◌≡◌, ℕ, ◌+◌, ◌-◌, ◌*◌, ◌/◌, ◌<◌, ◌≤◌, min, false, leb, ap, ◌∙◌, inl, inr, mul-le-mul_right, add-mul, one-mul, mul-zero, arith}
-use Rattle.std.proofs.lemmas.Nat.{div-add-mod', div-mul-add, mod_below, div_below}
-use Rattle.std.proofs.lemmas.Bool.{cases_eq, lt-leb, and_left, and_right}
+use Rattle.std.proofs.Common.{◌≡◌, ℕ, ◌+◌, ◌-◌, ◌/◌, ◌<◌, ◌≤◌, List, length, sym, ◌∙◌, mul-zero, arith}
+use Rattle.std.proofs.lemmas.Nat.{div-mul-add, div_below}
 use Rattle.memory.specs.declared.layout.Layout.{Layout}
-use Rattle.memory.specs.Flash.{flash_length, is_layout, word_layout, sector_start}
-
-next : (q size : ℕ) → q * size + size ≡ (q + 1) * size
-next q size = let e = add-mul q 1 size in let f = one-mul size in omega arith
+use Rattle.memory.specs.Blank.{blanked}
+use Rattle.memory.specs.Calls.{after_clear}
+use Rattle.memory.specs.Eeprom.{eeprom_shape}
+use Rattle.memory.specs.Flash.{flash_length, flash_shape, sector_start}
+use Rattle.memory.proofs.Answering.{clear-done}
+use Rattle.memory.proofs.Blanks.{blanked_unit}
 
 module _ (l : Layout) (u : ℕ) (h : u < l.sectors) where
-  pub sector_inside : sector_start l u + l.size ≤ flash_length l
-  sector_inside =
-      let e = next (l.sectors - 1 - u) l.size in
-      let m = mul-le-mul_right {m = l.sectors - 1 - u + 1} {n = l.sectors} l.size (omega arith) in
-      omega arith
+  sector_inside : sector_start l u + l.size ≤ flash_length l
+  sector_inside = grind arith
 
-  pub in_sector : (o : ℕ) → sector_start l u ≤ o → o < sector_start l u + l.size → l.sectors - 1 - o / l.size ≡ u
-  in_sector o le lt =
-      let b = o - sector_start l u in
-      let e : o ≡ sector_start l u + b = omega arith in
-      let d : o / l.size ≡ l.sectors - 1 - u = ap (λ x. x / l.size) e ∙ div-mul-add (l.sectors - 1 - u) l.size b (omega arith) in
-      omega arith
+  in_sector : (o : ℕ) → sector_start l u ≤ o → o < sector_start l u + l.size → l.sectors - 1 - o / l.size ≡ u
+  in_sector o le lt = grind (arith, div-mul-add)
 
-  pub only_sector : (o : ℕ) → o < flash_length l → l.sectors - 1 - o / l.size ≡ u → (sector_start l u ≤ o) × (o < sector_start l u + l.size)
-  only_sector o lt e = elim (cases_eq l.size 0) [
-    | inl z ↦ absurd (let p = ap (λ s. l.sectors * s) z ∙ mul-zero l.sectors in omega arith)
-    | inr p ↦
-        let below = div_below o l.size l.sectors (omega arith) lt in
-        let q : o / l.size ≡ l.sectors - 1 - u = omega arith in
-        let s = div-add-mod' o l.size in
-        let r = ap (λ x. x * l.size) q in
-        let m = mod_below o l.size (omega arith) in
-        (omega arith, omega arith)
-  ]
+  only_sector : (o : ℕ) → o < flash_length l → l.sectors - 1 - o / l.size ≡ u → (sector_start l u ≤ o) × (o < sector_start l u + l.size)
+  only_sector o lt e = let p : 0 < l.size = grind (arith, mul-zero) in grind (arith, div_below o l.size l.sectors)
 
--- the three ways in which sectors are no layout before their bytes are counted
-pub too_few : (buffer sectors words : ℕ) → sectors < 1 → is_layout buffer (word_layout sectors words) ≡ false
-too_few buffer sectors words h = and_left _ _ (lt-leb 1 sectors h)
+-- a sector's offsets made blank, and the sector cleared, are the same
+pub sector_cleared : (l : Layout) (u : ℕ) (xs : List ℕ) → length xs ≡ flash_length l → u < l.sectors → after_clear (flash_shape l) xs u ≡ blanked (sector_start l u) (sector_start l u + l.size) xs
+sector_cleared l u xs long h =
+    let i = sector_inside l u h in
+    clear-done (flash_shape l) xs u h
+    ∙ sym (blanked_unit (sector_start l u) (sector_start l u + l.size) xs (omega arith) (omega arith) (flash_shape l).unit_of u (in_sector l u h) (λ o lt e. only_sector l u h o (omega arith) e))
 
-pub too_many : (buffer sectors words : ℕ) → 32 < sectors → is_layout buffer (word_layout sectors words) ≡ false
-too_many buffer sectors words h = and_right (leb 1 sectors) _ (and_left _ _ (lt-leb sectors 32 h))
-
-pub too_large : (buffer sectors words : ℕ) → 1 ≤ sectors → 1048576 < words → is_layout buffer (word_layout sectors words) ≡ false
-too_large buffer sectors words s h =
-    let m = mul-le-mul_right {m = 1} {n = sectors} (words * 2) s in
-    let e = one-mul (words * 2) in
-    and_right (leb 1 sectors) _ (and_right (leb sectors 32) _ (lt-leb (sectors * (words * 2)) (min buffer 1048576) (omega arith)))
+-- the same of all bytes of an EEPROM
+pub eeprom_cleared : (xs : List ℕ) (n u : ℕ) → n ≡ length xs → u < 1 → after_clear eeprom_shape xs u ≡ blanked 0 n xs
+eeprom_cleared xs n u long h =
+    clear-done eeprom_shape xs u h ∙ sym (blanked_unit 0 n xs (omega arith) (omega arith) (λ o. 0) u (λ o _ _. omega arith) (λ o l _. (omega arith, omega arith)))

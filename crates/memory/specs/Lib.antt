@@ -9,5 +9,4 @@ pub mod Flash
 pub mod Part
 pub mod Script
 pub mod Seal
-pub mod Crossings
-pub mod Clearing
+pub mod Shapes

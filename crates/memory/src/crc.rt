@@ -1,3 +1,5 @@
+#![tactic(auto, using(crate::proofs::Cuts::crcs))]
+
 // The CRC-16 over bytes, continued from any value.
 ghost use Rattle.std.specs.Prelude.{◌≡◌, ◌/◌, ◌%◌, ◌≤◌, [], ◌∷◌, length};
 ghost use Rattle.memory.specs.Crc.{crc_bits, crc_byte, crc_from, crc_zeros, Continues};
@@ -21,28 +23,19 @@ pub fn crc_over(from: u16, bytes: &[u8]) -> u16
     ensures answer { result ≡ crc_from from bytes.now }
     ensures law { Continues from bytes.now result }
 {
-    let (steps, rest) = bytes.split_at(bytes.len() / 8 * 8);
-    let mut crc = over_steps(from, steps);
-    for byte in rest {
-        crc = crc_byte(crc, *byte);
-    }
-    crc
+    let (steps, rest) = bytes.as_chunks::<8>();
+    let crc = steps.iter().fold(from, over_step);
+    rest.iter().fold(crc, |crc, byte| crc_byte(crc, *byte))
 }
 
-// The CRC with more bytes, eight a step.
-fn over_steps(from: u16, steps: &[u8]) -> u16
-    requires { length steps.now % 8 ≡ 0 }
-    ensures { result ≡ crc_from from steps.now }
+// The CRC with eight bytes more.
+fn over_step(crc: u16, step: &[u8; 8]) -> u16
+    ensures { result ≡ crc_from crc step.now }
 {
-    let mut crc = from;
-    let mut rest = steps;
-    while let [a, b, c, d, e, f, g, h, tail @ ..] = rest {
-        // The CRC so far is taken in with the first two bytes, so that the step can begin from 0.
-        let met = crc ^ u16::from_le_bytes([*a, *b]);
-        crc = four(low(met), high(met), *c, *d, 4) ^ four(*e, *f, *g, *h, 0);
-        rest = tail;
-    }
-    crc
+    let [a, b, c, d, e, f, g, h] = *step;
+    // The CRC so far is taken in with the first two bytes, so that the step can begin from 0.
+    let [low, high] = (crc ^ u16::from_le_bytes([a, b])).to_le_bytes();
+    four(low, high, c, d, 4) ^ four(e, f, g, h, 0)
 }
 
 // The CRC from 0 of four bytes with so many bytes of zero after them.
@@ -60,17 +53,6 @@ fn four(a: u8, b: u8, c: u8, d: u8, after: usize) -> u16
 fn eight_bits(crc: u16) -> u16
     ensures { result ≡ crc_bits crc }
 {
-    (crc >> 8) ^ with_zeros(low(crc), 0)
-}
-
-fn low(crc: u16) -> u8
-    ensures { result ≡ crc % 256 }
-{
-    (crc & 0xFF) as u8
-}
-
-fn high(crc: u16) -> u8
-    ensures { result ≡ crc / 256 }
-{
-    (crc >> 8) as u8
+    let [low, high] = crc.to_le_bytes();
+    u16::from(high) ^ with_zeros(low, 0)
 }

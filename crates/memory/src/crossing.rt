@@ -1,9 +1,11 @@
+#![tactic(auto, using(crate::proofs::Crossings::crossings))]
+
 // Lane crossing: a part over any part, with the bytes of each pair of offsets in each other's place. Files
 // carry words high byte first, and a flash array has them low byte first.
 ghost use Rattle.std.specs.Prelude.{◌≡◌, length};
 ghost use Rattle.memory.specs.Crossing.{crossed, crossed_contents, crossed_shape, CrossedTwice};
 ghost use Rattle.std.proofs.Common.{arith, rules};
-ghost use Rattle.memory.specs.Crossings.{length-crossed, crossed-shaped};
+ghost use Rattle.memory.specs.Shapes.{length-crossed, crossed-shaped};
 
 use crate::part::{ReadablePart, WritablePart};
 use crate::refusal::PartRefusal;
@@ -17,12 +19,10 @@ pub struct Crossing<P> {
 fn across(len: usize, offset: usize) -> usize
     ensures { result ≡ crossed len offset }
 {
-    if offset >= len {
-        offset
-    } else if offset % 2 == 1 {
-        offset - 1
-    } else if offset + 1 < len {
-        offset + 1
+    // The offsets of a pair differ in their lowest bit.
+    let other = offset ^ 1;
+    if offset < len && other < len {
+        other
     } else {
         offset
     }
@@ -38,25 +38,20 @@ impl<P> Crossing<P> {
     pub fn into_inner(self) -> P
         ensures { result ≡ self.below }
     {
-        let Crossing { below } = self;
-        below
+        self.below
     }
 }
 
 impl<P: ReadablePart> ReadablePart for Crossing<P> {
     const BYTES_PER_ADDRESS: usize = P::BYTES_PER_ADDRESS;
 
-    ghost width = { P.ReadablePart.width };
+    ghost BYTES_PER_ADDRESS = { P.BYTES_PER_ADDRESS };
 
-    ghost contents = { λ x. crossed_contents (P.ReadablePart.contents x.below) };
+    ghost contents = { λ x. crossed_contents (P.contents x.below) };
 
     ghost widths = { Prim.search rules };
 
-    ghost limited = { λ x. omega (arith, length-crossed (P.ReadablePart.contents x.below), P.ReadablePart.limited x.below) };
-
-    fn address_width() -> usize {
-        P::address_width()
-    }
+    ghost limited = { λ x. omega (arith, length-crossed (P.contents x.below), P.limited x.below) };
 
     fn len(&self) -> usize {
         self.below.len()
@@ -68,9 +63,9 @@ impl<P: ReadablePart> ReadablePart for Crossing<P> {
 }
 
 impl<P: WritablePart> WritablePart for Crossing<P> {
-    ghost shape = { λ x. crossed_shape (length (P.ReadablePart.contents x.below)) (P.WritablePart.shape x.below) };
+    ghost shape = { λ x. crossed_shape (length (P.contents x.below)) (P.shape x.below) };
 
-    ghost shaped = { λ x. crossed-shaped (P.ReadablePart.contents x.below) (P.WritablePart.shape x.below) (P.WritablePart.shaped x.below) };
+    ghost shaped = { λ x. crossed-shaped (P.contents x.below) (P.shape x.below) (P.shaped x.below) };
 
     fn units(&self) -> usize {
         self.below.units()

@@ -1,50 +1,46 @@
 // EEPROM: one byte an address, one unit, and every value is taken.
-ghost use Rattle.std.specs.Prelude.{◌≡◌, ◌≤◌, vec_len};
+ghost use Rattle.std.specs.Prelude.{◌≡◌, min, vec_len};
 ghost use Rattle.memory.specs.Eeprom.{eeprom_shape, eeprom_contents};
-ghost use Rattle.std.proofs.Common.{rules};
+ghost use Rattle.std.proofs.Common.{arith, rules};
 
-use crate::bytes::{blanken, byte_at};
+use crate::cells::Cells;
 use crate::part::{MAX_LENGTH, ReadablePart, WritablePart};
 use crate::refusal::PartRefusal;
 
 #[derive(Drop)]
 pub struct Eeprom {
-    bytes: Vec<u8>,
-    ghost limited: { vec_len bytes ≤ 1048576 },
+    cells: Cells,
 }
 
 impl Eeprom {
     // An EEPROM over a buffer, whose bytes past the limit of a part are unused.
     pub fn new(buffer: Vec<u8>) -> Eeprom
-        ensures { result.bytes.items ≡ eeprom_contents buffer.items }
+        ensures len { vec_len result.cells.bytes ≡ min 1048576 (vec_len buffer) }
+        ensures bytes { result.cells.bytes.items ≡ eeprom_contents buffer.items }
     {
-        let mut bytes = buffer;
-        bytes.truncate(MAX_LENGTH);
-        Eeprom { bytes }
+        Eeprom {
+            cells: Cells::new(buffer, MAX_LENGTH),
+        }
     }
 }
 
 impl ReadablePart for Eeprom {
     const BYTES_PER_ADDRESS: usize = 1;
 
-    ghost width = { 1 };
+    ghost BYTES_PER_ADDRESS = { 1 };
 
-    ghost contents = { λ e. e.bytes.items };
+    ghost contents = { λ e. e.cells.bytes.items };
 
     ghost widths = { Prim.search rules };
 
-    ghost limited = { Prim.search rules };
-
-    fn address_width() -> usize {
-        Self::BYTES_PER_ADDRESS
-    }
+    ghost limited = { λ e. omega (arith, e.cells.limited) };
 
     fn len(&self) -> usize {
-        self.bytes.len()
+        self.cells.len()
     }
 
     fn read(&self, offset: usize) -> Result<u8, PartRefusal> {
-        byte_at(&self.bytes, offset)
+        self.cells.read(offset)
     }
 }
 
@@ -58,27 +54,22 @@ impl WritablePart for Eeprom {
     }
 
     fn question(&self, offset: usize, _value: u8) -> Result<bool, PartRefusal> {
-        if offset < self.bytes.len() {
-            Ok(true)
-        } else {
-            Err(PartRefusal::Outside)
-        }
+        self.cells.read(offset).map(|_| true)
     }
 
     fn put(&mut self, offset: usize, value: u8) -> Result<(), PartRefusal> {
-        if offset >= self.bytes.len() {
-            return Err(PartRefusal::Outside);
-        }
-        self.bytes[offset] = value;
+        self.cells.read(offset)?;
+        self.cells.set(offset, value);
         Ok(())
     }
 
+    #[tactic(auto, using(crate::proofs::Sectors::eeprom_cleared))]
     fn clear(&mut self, unit: usize) -> Result<(), PartRefusal> {
         if unit >= 1 {
             return Err(PartRefusal::NoSuchUnit);
         }
-        let end = self.bytes.len();
-        blanken(&mut self.bytes, 0, end);
+        let end = self.cells.len();
+        self.cells.blank(0..end);
         Ok(())
     }
 }

@@ -1,12 +1,10 @@
 // Flash: two bytes an address, equal sectors, and a put can only turn ones into zeros.
-ghost use Rattle.std.specs.Prelude.{◌≡◌, ◌*◌, ◌≤◌, vec_len, bit_and};
-ghost use Rattle.std.proofs.Common.{◌∙◌, rules, arith};
-ghost use Rattle.memory.specs.Flash.{layout_of, flash_contents, flash_shape};
-ghost use Rattle.std.specs.Int.Bits.{and_self};
-ghost use Rattle.std.proofs.lemmas.Nat.{and_mask};
-ghost use Rattle.std.proofs.lemmas.Bool.{eq-eqb};
+ghost use Rattle.std.specs.Prelude.{◌≡◌, ◌*◌, ◌≤◌, length, vec_len};
+ghost use Rattle.std.proofs.Common.{rules, arith};
+ghost use Rattle.memory.specs.Flash.{layout_of, flash_contents, flash_shape, flash_takes};
+ghost use Rattle.memory.specs.Shapes.{flash-shaped};
 
-use crate::bytes::{blanken, byte_at};
+use crate::cells::Cells;
 use crate::layout::Layout;
 use crate::part::{ReadablePart, WritablePart};
 use crate::refusal::PartRefusal;
@@ -14,12 +12,18 @@ use crate::refusal::PartRefusal;
 // Sector A is unit 0 and has the highest offsets.
 #[derive(Drop)]
 pub struct Flash {
-    bytes: Vec<u8>,
+    cells: Cells,
     layout: Layout,
     ghost some: { 1 ≤ layout.sectors },
     ghost few: { layout.sectors ≤ 32 },
-    ghost full: { vec_len bytes ≡ layout.sectors * layout.size },
-    ghost limited: { vec_len bytes ≤ 1048576 },
+    ghost full: { vec_len cells.bytes ≡ layout.sectors * layout.size },
+}
+
+// Whether a byte can become a value by turning ones into zeros.
+fn takes(old: u8, value: u8) -> bool
+    ensures { result ≡ flash_takes old value }
+{
+    value & old == value
 }
 
 impl Flash {
@@ -27,75 +31,64 @@ impl Flash {
     // and one unit.
     pub fn new(buffer: Vec<u8>, sectors: usize, words: usize) -> Flash
         ensures layout { result.layout ≡ layout_of (vec_len buffer) sectors words }
-        ensures bytes { result.bytes.items ≡ flash_contents (layout_of (vec_len buffer) sectors words) buffer.items }
+        ensures bytes { result.cells.bytes.items ≡ flash_contents (layout_of (vec_len buffer) sectors words) buffer.items }
     {
         let layout = Layout::of(buffer.len(), sectors, words);
-        let mut bytes = buffer;
-        bytes.truncate(layout.sectors * layout.size);
-        Flash { bytes, layout }
+        Flash {
+            cells: Cells::new(buffer, layout.sectors * layout.size),
+            layout,
+        }
     }
 }
 
 impl ReadablePart for Flash {
     const BYTES_PER_ADDRESS: usize = 2;
 
-    ghost width = { 2 };
+    ghost BYTES_PER_ADDRESS = { 2 };
 
-    ghost contents = { λ f. f.bytes.items };
+    ghost contents = { λ f. f.cells.bytes.items };
 
     ghost widths = { Prim.search rules };
 
-    ghost limited = { Prim.search rules };
-
-    fn address_width() -> usize {
-        Self::BYTES_PER_ADDRESS
-    }
+    ghost limited = { λ f. omega (arith, f.cells.limited) };
 
     fn len(&self) -> usize {
-        self.bytes.len()
+        self.cells.len()
     }
 
     fn read(&self, offset: usize) -> Result<u8, PartRefusal> {
-        byte_at(&self.bytes, offset)
+        self.cells.read(offset)
     }
 }
 
 impl WritablePart for Flash {
     ghost shape = { λ f. flash_shape f.layout };
 
-    ghost shaped = { λ x.
-        record {
-          some_unit = x.some;
-          few_units = x.few;
-          in_unit = λ o l. omega (arith, x.some);
-          takes_same = λ o v _ _. eq-eqb (bit_and v v) v (and_self v);
-          takes_blank = λ o v _ l. eq-eqb (bit_and v 255) v (and_mask v 8 ∙ omega arith);
-        } };
+    ghost shaped = { λ f. flash-shaped (length f.cells.bytes.items) f.layout f.some f.few };
 
     fn units(&self) -> usize {
         self.layout.sectors
     }
 
     fn question(&self, offset: usize, value: u8) -> Result<bool, PartRefusal> {
-        let old = byte_at(&self.bytes, offset)?;
-        Ok(value & old == value)
+        self.cells.read(offset).map(|old| takes(old, value))
     }
 
     fn put(&mut self, offset: usize, value: u8) -> Result<(), PartRefusal> {
-        let old = byte_at(&self.bytes, offset)?;
-        if value & old != value {
+        let old = self.cells.read(offset)?;
+        if !takes(old, value) {
             return Err(PartRefusal::NotTaken);
         }
-        self.bytes[offset] = value;
+        self.cells.set(offset, value);
         Ok(())
     }
 
+    #[tactic(auto, using(crate::proofs::Sectors::sector_cleared))]
     fn clear(&mut self, unit: usize) -> Result<(), PartRefusal> {
         if unit >= self.layout.sectors {
             return Err(PartRefusal::NoSuchUnit);
         }
-        let (start, end) = self.layout.sector(unit);
-        blanken(&mut self.bytes, start, end);
+        self.cells.blank(self.layout.sector(unit));
         Ok(())
     }
 }

@@ -3,6 +3,7 @@ ghost use Rattle.std.specs.Prelude.{◌≡◌, ◌+◌, ◌<◌, ◌≤◌};
 ghost use Rattle.memory.specs.Flash.{flash_length, layout_of, sector_start};
 
 use crate::part::{MAX_LENGTH, MAX_UNITS};
+use std::ops::Range;
 
 // How many sectors there are, and how many bytes each has.
 #[derive(Clone, Copy)]
@@ -17,26 +18,30 @@ impl Layout {
     pub fn of(buffer: usize, sectors: usize, words: usize) -> Layout
         ensures { result ≡ layout_of buffer sectors words }
     {
-        let wrong = Layout {
-            sectors: 1,
-            size: 0,
-        };
-        if sectors < 1 || sectors > MAX_UNITS || words > MAX_LENGTH {
-            return wrong;
+        // The first two tests keep the product in range.
+        if (1..=MAX_UNITS).contains(&sectors)
+            && words <= MAX_LENGTH
+            && sectors * (words * 2) <= buffer.min(MAX_LENGTH)
+        {
+            Layout {
+                sectors,
+                size: words * 2,
+            }
+        } else {
+            Layout {
+                sectors: 1,
+                size: 0,
+            }
         }
-        let size = words * 2;
-        if sectors * size > buffer.min(MAX_LENGTH) {
-            return wrong;
-        }
-        Layout { sectors, size }
     }
 
-    // Where a sector begins and where it ends.
-    pub(crate) fn sector(self, unit: usize) -> (usize, usize)
+    // The offsets of a sector.
+    pub(crate) fn sector(self, unit: usize) -> Range<usize>
         requires { (unit < self.sectors) × (flash_length self ≤ 1048576) }
-        ensures { result ≡ (sector_start self unit, sector_start self unit + self.size) }
+        ensures start { result.start ≡ sector_start self unit }
+        ensures end { result.end ≡ sector_start self unit + self.size }
     {
         let start = (self.sectors - 1 - unit) * self.size;
-        (start, start + self.size)
+        start..start + self.size
     }
 }

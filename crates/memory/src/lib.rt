@@ -1,7 +1,7 @@
 #![tactic(auto)]
 
 // Memory parts over one meaning: flash, EEPROM and lane crossing; their CRC and seal; and actions on a part.
-mod bytes;
+mod cells;
 mod crc;
 mod crossing;
 mod eeprom;

@@ -17,14 +17,10 @@ pub trait ReadablePart {
     const BYTES_PER_ADDRESS: usize;
 
     // the same, for clauses
-    ghost width: { ℕ };
+    ghost BYTES_PER_ADDRESS: { ℕ };
 
     // the bytes, from offset 0 on
     ghost contents: { Self → List ℕ };
-
-    // BYTES_PER_ADDRESS, as a value that a proof can use
-    fn address_width() -> usize
-        ensures { result ≡ width };
 
     fn len(&self) -> usize
         ensures { result ≡ length (contents self.now) };
@@ -32,13 +28,13 @@ pub trait ReadablePart {
     fn read(&self, offset: usize) -> Result<u8, PartRefusal>
         ensures { result ≡ read_answer (contents self.now) offset };
 
-    ghost widths: { IsWidth width };
+    ghost widths: { IsWidth BYTES_PER_ADDRESS };
 
     ghost limited: { (x : Self) → length (contents x) ≤ 1048576 };
 }
 
 pub trait WritablePart: ReadablePart {
-    // how the part takes changes
+    // How the part takes changes. One record of it and `contents` would need a law more, to tie the two.
     ghost shape: { Self → Shape };
 
     fn units(&self) -> usize
@@ -46,17 +42,17 @@ pub trait WritablePart: ReadablePart {
 
     // Whether the part takes a value at an offset over the byte that is there.
     fn question(&self, offset: usize, value: u8) -> Result<bool, PartRefusal>
-        ensures { result ≡ question_answer (shape self.now) (Self.ReadablePart.contents self.now) offset value };
+        ensures { result ≡ question_answer (shape self.now) (Self.contents self.now) offset value };
 
     fn put(&mut self, offset: usize, value: u8) -> Result<(), PartRefusal>
-        ensures answer { result ≡ put_answer (shape self.old) (Self.ReadablePart.contents self.old) offset value }
-        ensures after { Self.ReadablePart.contents self.new ≡ after_put (shape self.old) (Self.ReadablePart.contents self.old) offset value }
+        ensures answer { result ≡ put_answer (shape self.old) (Self.contents self.old) offset value }
+        ensures after { Self.contents self.new ≡ after_put (shape self.old) (Self.contents self.old) offset value }
         ensures same { shape self.new ≡ shape self.old };
 
     fn clear(&mut self, unit: usize) -> Result<(), PartRefusal>
         ensures answer { result ≡ clear_answer (shape self.old) unit }
-        ensures after { Self.ReadablePart.contents self.new ≡ after_clear (shape self.old) (Self.ReadablePart.contents self.old) unit }
+        ensures after { Self.contents self.new ≡ after_clear (shape self.old) (Self.contents self.old) unit }
         ensures same { shape self.new ≡ shape self.old };
 
-    ghost shaped: { (x : Self) → IsShape (length (Self.ReadablePart.contents x)) (shape x) };
+    ghost shaped: { (x : Self) → IsShape (length (Self.contents x)) (shape x) };
 }

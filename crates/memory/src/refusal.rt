@@ -13,7 +13,8 @@ pub enum PartRefusal {
 }
 
 impl PartRefusal {
-    // The number by which the refusal is known.
+    // The number by which the refusal is known; a `u8::from` would not say which number it gives, and `as` can't
+    // serve the other refusals.
     pub fn number(self) -> u8
         ensures { result ≡ refusal_number self }
     {

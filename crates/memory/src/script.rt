@@ -1,7 +1,7 @@
 // Actions on a part, one after the other, and their answers.
 ghost use Rattle.std.specs.Prelude.{◌≡◌, IfOk, MatchResult};
 ghost use Rattle.memory.specs.Changes.{changed_all, ByLast};
-ghost use Rattle.memory.specs.Script.{answered, answer_of, after_action, answers_of, made_by_all};
+ghost use Rattle.memory.specs.Script.{answer_of, after_action, answers_of, made_by_all};
 
 use crate::part::WritablePart;
 use crate::refusal::PartRefusal;
@@ -23,21 +23,28 @@ pub enum Answer {
     Taken(bool),
     // a put or a clear was done
     Done,
-    Refused(PartRefusal),
 }
 
 // Carries out actions on a part, in their order, and hands out the answer to each. For want of memory
 // nothing is carried out.
+#[tactic(auto, using(crate::proofs::Scripts::scripts), unfolding(crate::specs::Script::answers_of))]
 pub fn exercise<P: WritablePart>(
     heap: Global,
     part: &mut P,
     actions: &[Action],
-) -> Result<Vec<Answer>, AllocError>
-    ensures answer { IfOk result (λ v. v.items ≡ answers_of (P.WritablePart.shape part.old) (P.ReadablePart.contents part.old) actions.now) }
-    ensures after { MatchResult result (λ v. P.ReadablePart.contents part.new ≡ changed_all (P.WritablePart.shape part.old) (made_by_all actions.now v.items) (P.ReadablePart.contents part.old)) (λ _. P.ReadablePart.contents part.new ≡ P.ReadablePart.contents part.old) }
-    ensures law { IfOk result (λ v. ByLast (P.WritablePart.shape part.old) (made_by_all actions.now v.items) (P.ReadablePart.contents part.old) (P.ReadablePart.contents part.new)) }
-    ensures same { P.WritablePart.shape part.new ≡ P.WritablePart.shape part.old }
+) -> Result<Vec<Result<Answer, PartRefusal>>, AllocError>
+    ensures answer { IfOk result
+        (λ v. v.items ≡ answers_of (P.shape part.old) (P.contents part.old) actions.now) }
+    ensures after { MatchResult result
+        (λ v. P.contents part.new
+        ≡ changed_all (P.shape part.old) (made_by_all actions.now v.items) (P.contents part.old))
+        (λ _. P.contents part.new ≡ P.contents part.old) }
+    ensures law { IfOk result
+        (λ v. ByLast (P.shape part.old) (made_by_all actions.now v.items)
+        (P.contents part.old) (P.contents part.new)) }
+    ensures same { P.shape part.new ≡ P.shape part.old }
 {
+    // Not a `collect`: the room is taken first, so that for want of it nothing is carried out.
     let mut answers = Vec::with_capacity(heap, actions.len())?;
     for action in actions {
         answers.push_reserved(perform(part, *action));
@@ -46,31 +53,15 @@ pub fn exercise<P: WritablePart>(
 }
 
 // Carries out one action.
-pub fn perform<P: WritablePart>(part: &mut P, action: Action) -> Answer
-    ensures answer { result ≡ answer_of (P.WritablePart.shape part.old) (P.ReadablePart.contents part.old) action }
-    ensures after { P.ReadablePart.contents part.new ≡ after_action (P.WritablePart.shape part.old) (P.ReadablePart.contents part.old) action }
-    ensures same { P.WritablePart.shape part.new ≡ P.WritablePart.shape part.old }
+pub fn perform<P: WritablePart>(part: &mut P, action: Action) -> Result<Answer, PartRefusal>
+    ensures answer { result ≡ answer_of (P.shape part.old) (P.contents part.old) action }
+    ensures after { P.contents part.new ≡ after_action (P.shape part.old) (P.contents part.old) action }
+    ensures same { P.shape part.new ≡ P.shape part.old }
 {
     match action {
-        Action::Read { offset } => match part.read(offset) {
-            Ok(byte) => Answer::Byte(byte),
-            Err(refusal) => Answer::Refused(refusal),
-        },
-        Action::Question { offset, value } => match part.question(offset, value) {
-            Ok(taken) => Answer::Taken(taken),
-            Err(refusal) => Answer::Refused(refusal),
-        },
-        Action::Put { offset, value } => done(part.put(offset, value)),
-        Action::Clear { unit } => done(part.clear(unit)),
-    }
-}
-
-// The answer to a put or a clear.
-fn done(res: Result<(), PartRefusal>) -> Answer
-    ensures { result ≡ answered (λ _. Answer.Done) res }
-{
-    match res {
-        Ok(()) => Answer::Done,
-        Err(refusal) => Answer::Refused(refusal),
+        Action::Read { offset } => part.read(offset).map(Answer::Byte),
+        Action::Question { offset, value } => part.question(offset, value).map(Answer::Taken),
+        Action::Put { offset, value } => part.put(offset, value).map(|()| Answer::Done),
+        Action::Clear { unit } => part.clear(unit).map(|()| Answer::Done),
     }
 }

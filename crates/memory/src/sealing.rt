@@ -1,75 +1,49 @@
 // The seal: a CRC over a sample of a part, and its copy in the last two bytes of another.
 ghost use Rattle.std.specs.Prelude.{◌≡◌, ◌+◌, ◌/◌, ◌<◌, ◌≤◌, length, take, drop};
 ghost use Rattle.memory.specs.Crc.{crc_from};
-ghost use Rattle.memory.specs.Seal.{seal_of, stored_seal, seal_valid};
+ghost use Rattle.memory.specs.Seal.{address_bytes, seal_of, stored_seal, seal_valid};
 
 use crate::crc::{CRC_START, crc_byte};
 use crate::part::ReadablePart;
+use crate::reading::byte_at;
 
 // One address of so many is in the sample.
 pub const SAMPLE_STEP: usize = 128;
 
 // The CRC over every 128th address of a part, each that lies whole in it, with all its bytes.
 pub fn seal<P: ReadablePart>(part: &P) -> u16
-    ensures { result ≡ seal_of P.ReadablePart.width (P.ReadablePart.contents part.now) }
+    ensures { result ≡ seal_of P.BYTES_PER_ADDRESS (P.contents part.now) }
 {
-    let width = P::address_width();
-    let addresses = whole_addresses(part);
-    let mut crc = CRC_START;
-    let mut address = 0;
-    while address < addresses {
-        crc = crc_of_bytes(part, address * width, width, crc);
-        address = next_sample(address);
-    }
-    crc
+    let addresses = part.len() / P::BYTES_PER_ADDRESS;
+    (0..addresses).step_by(SAMPLE_STEP).fold(
+        CRC_START,
+        |crc, address| crc_of_address(part, address, crc),
+    )
 }
 
-// How many addresses lie whole in a part.
-fn whole_addresses<P: ReadablePart>(part: &P) -> usize
-    ensures { result ≡ length (P.ReadablePart.contents part.now) / P.ReadablePart.width }
+// The CRC over the bytes of an address that lies whole in a part, continued.
+fn crc_of_address<P: ReadablePart>(part: &P, address: usize, from: u16) -> u16
+    requires { address < length (P.contents part.now) / P.BYTES_PER_ADDRESS }
+    ensures { result ≡ crc_from from (address_bytes P.BYTES_PER_ADDRESS (P.contents part.now) address) }
 {
-    part.len() / P::address_width()
-}
-
-// The address in the sample that follows one.
-fn next_sample(address: usize) -> usize
-    requires { address < 1048576 }
-    ensures { result ≡ address + 128 }
-{
-    address + SAMPLE_STEP
-}
-
-// The CRC over some bytes of a part, continued.
-fn crc_of_bytes<P: ReadablePart>(part: &P, start: usize, count: usize, from: u16) -> u16
-    requires { start + count ≤ length (P.ReadablePart.contents part.now) }
-    ensures { result ≡ crc_from from (take count (drop start (P.ReadablePart.contents part.now))) }
-{
-    let mut crc = from;
-    for offset in start..start + count {
-        crc = crc_byte(crc, part.read(offset).unwrap());
-    }
-    crc
+    let start = address * P::BYTES_PER_ADDRESS;
+    (start..start + P::BYTES_PER_ADDRESS)
+        .map(|offset| byte_at(part, offset))
+        .fold(from, crc_byte)
 }
 
 // The seal that is stored in the last two bytes of a part, high byte first; a shorter part has none.
 pub fn stored_seal<P: ReadablePart>(part: &P) -> Option<u16>
-    ensures { result ≡ stored_seal (P.ReadablePart.contents part.now) }
+    ensures { result ≡ stored_seal (P.contents part.now) }
 {
-    let len = part.len();
-    if len < 2 {
-        return None;
-    }
-    let high = part.read(len - 2).unwrap();
-    let low = part.read(len - 1).unwrap();
-    Some(u16::from(high) * 256 + u16::from(low))
+    let start = part.len().checked_sub(2)?;
+    let bytes = [byte_at(part, start), byte_at(part, start + 1)];
+    Some(u16::from_be_bytes(bytes))
 }
 
 // Whether the seal of one part is the one that is stored in another.
 pub fn seal_is_valid<P: ReadablePart, Q: ReadablePart>(sealed: &P, store: &Q) -> bool
-    ensures { result ≡ seal_valid P.ReadablePart.width (P.ReadablePart.contents sealed.now) (Q.ReadablePart.contents store.now) }
+    ensures { result ≡ seal_valid P.BYTES_PER_ADDRESS (P.contents sealed.now) (Q.contents store.now) }
 {
-    match stored_seal(store) {
-        Some(stored) => stored == seal(sealed),
-        None => false,
-    }
+    stored_seal(store).is_some_and(|stored| stored == seal(sealed))
 }

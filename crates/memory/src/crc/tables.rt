@@ -2,7 +2,7 @@
 ghost use Rattle.std.specs.Prelude.{◌≡◌, suc, ◌<◌};
 ghost use Rattle.memory.specs.Crc.{crc_zeros};
 
-// Row n has for each byte its CRC from 0 with n bytes of zero after it.
+// Written out, since a constant cannot call a function. Row n has for each byte its CRC from 0 with n bytes of zero after it.
 static TABLES: [[u16; 256]; 8] = [
     [
         0x0000, 0xC0C1, 0xC181, 0x0140, 0xC301, 0x03C0, 0x0280, 0xC241, 0xC601, 0x06C0, 0x0780,
@@ -219,5 +219,5 @@ pub(crate) fn with_zeros(byte: u8, after: usize) -> u16
     requires { after < 8 }
     ensures { result ≡ crc_zeros (suc after) byte }
 {
-    TABLES[after][byte as usize]
+    TABLES[after][usize::from(byte)]
 }

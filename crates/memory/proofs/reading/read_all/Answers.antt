@@ -1,21 +1,7 @@
-use Rattle.std.proofs.Common.{◌<◌, [], ◌∷◌, ◌++◌, length, take, sym, ap, ◌∙◌, arith}
-use Rattle.std.proofs.lemmas.List.{take_more, take_all}
-use Rattle.memory.proofs.Answering.{read-inside}
+use Rattle.std.proofs.Common.{ℕ, rules}
+use Rattle.std.proofs.iter.runs.Sources.{ranges}
+use Rattle.std.proofs.lemmas.List.{ext_get_or}
 use Rattle.memory.proofs.reading.read_all.Goals as goal
 
-pub loop-offset-preserved : goal.loop-offset-preserved
-loop-offset-preserved g c =
-    let xs = g.P.ReadablePart.contents c.args.part.now in
-    let i = c.loop-offset.offset in
-    let q = c.push_reserved.ensures in
-    let h : i < length xs = omega arith in
-    let byte = read-inside xs i c.unwrap.result h (sym c.read.ensures ∙ c.unwrap.ensures) in (
-      omega arith,
-      omega arith,
-      q.items ∙ ap (λ bs. bs ++ c.unwrap.result ∷ []) c.loop-offset.invariant.2 ∙ ap (λ b. take i xs ++ b ∷ []) byte ∙ sym (take_more xs i 0 h),
-    )
-
 pub returns : goal.returns
-returns g c =
-    let xs = g.P.ReadablePart.contents c.args.part.now in
-    c.loop-offset.invariant.2 ∙ take_all c.loop-offset.offset xs (omega arith)
+returns g c = search (rules, ranges, ext_get_or {A = ℕ} 0)

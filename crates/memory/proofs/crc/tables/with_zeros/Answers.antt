@@ -8,6 +8,6 @@ use Rattle.memory.proofs.crc.tables.with_zeros.Goals as goal
 pub returns : goal.returns
 unfolding crc_bits
 returns c =
-    ap (λ (row : List ℕ). get_or row c.args.byte 0)
+    rw c.from.ensures (ap (λ (row : List ℕ). get_or row c.args.byte 0)
     (get_or-map-range_with_len (λ k. map (crc_zeros (suc k)) (range_with_len 0 256)) 0 8 c.args.after c.args.after _ c.requires (omega arith))
-    ∙ get_or-map-range_with_len (crc_zeros (suc c.args.after)) 0 256 c.args.byte c.args.byte 0 (search rules) (omega arith)
+    ∙ get_or-map-range_with_len (crc_zeros (suc c.args.after)) 0 256 c.args.byte c.args.byte 0 (search rules) (omega arith))

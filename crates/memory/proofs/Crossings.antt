@@ -1,0 +1,80 @@
+-- Laws of the lane crossing. Assumes nothing.
+use Rattle.std.specs.Prelude.{◌≡◌, ℕ, ◌<◌, ◌≤◌, cond, List, length, Ok, Err, nat_lt, slice_index, slice_set}
+use Rattle.std.proofs.Common.{refl, ◌∙◌, arith}
+use Rattle.std.proofs.lemmas.List.FromFn.{get_or-map-range_with_len}
+use Rattle.std.proofs.lemmas.List.{ext_get_or, length-set, get_or-set_other}
+use Rattle.std.proofs.lemmas.Grind.{get_or-set_at}
+use Rattle.std.proofs.lemmas.Bool.Decides.{nat_tests}
+use Rattle.memory.specs.declared.refusal.PartRefusal.TheVariants.{Outside, NotTaken}
+use Rattle.memory.specs.Part.{Shape}
+use Rattle.memory.specs.Changes.{cleared_unit}
+use Rattle.memory.specs.Calls.{read_answer, question_answer, put_answer, after_put, after_clear}
+use Rattle.memory.specs.Shapes.{cross_inside, length-crossed}
+use Rattle.memory.proofs.Answering.{length-after_put, length-after_clear}
+use Rattle.memory.proofs.Clearing.{length-cleared, get_or-cleared}
+use Rattle.memory.specs.Crossing.{crossed, crossed_contents, crossed_shape, CrossedTwice}
+
+pub cross_outside : (n o : ℕ) → n ≤ o → crossed n o ≡ o
+cross_outside n o h = grind (arith, nat_tests)
+
+pub cross_cross : (n o : ℕ) → crossed n (crossed n o) ≡ o
+cross_cross n o = grind (arith, nat_tests)
+
+pub get_or-crossed : (xs : List ℕ) (o : ℕ) → o < length xs → slice_index (crossed_contents xs) o ≡ slice_index xs (crossed (length xs) o)
+get_or-crossed xs o h = get_or-map-range_with_len (λ k. slice_index xs (crossed (length xs) k)) 0 (length xs) o o 0 h (omega arith)
+
+contents-twice : (xs : List ℕ) → crossed_contents (crossed_contents xs) ≡ xs
+contents-twice xs = ext_get_or 0 _ xs (grind (arith, length-crossed)) (λ k h. grind (arith, get_or-crossed, length-crossed, cross_inside, cross_cross))
+
+shape-twice : (n : ℕ) (s : Shape) → crossed_shape n (crossed_shape n s) ≡ s
+shape-twice n s = λ i. record { units = s.units; unit_of = λ o. s.unit_of (cross_cross n o i); takes = λ o. s.takes (cross_cross n o i) }
+
+pub same_crossed : (m n : ℕ) (s t : Shape) → m ≡ n → s ≡ t → crossed_shape m s ≡ crossed_shape n t
+same_crossed m n s t e h = λ i. crossed_shape (e i) (h i)
+
+pub crossed-twice : CrossedTwice
+crossed-twice m = λ i. record { contents = contents-twice m.contents i; shape = shapes i }
+  where
+    shapes : crossed_shape (length (crossed_contents m.contents)) (crossed_shape (length m.contents) m.shape) ≡ m.shape
+    shapes = same_crossed _ (length m.contents) (crossed_shape (length m.contents) m.shape) _ (length-crossed m.contents) refl ∙ shape-twice (length m.contents) m.shape
+
+-- the byte that is put at an offset is put at the offset below
+set-crossed : (xs : List ℕ) (o v : ℕ) → slice_set (crossed_contents xs) o v ≡ crossed_contents (slice_set xs (crossed (length xs) o) v)
+set-crossed xs o v = ext_get_or 0 _ _ (grind (arith, length-crossed, length-set)) at
+  where
+    p : ℕ
+    p = crossed (length xs) o
+
+    at : (k : ℕ) → k < length (slice_set (crossed_contents xs) o v) → slice_index (slice_set (crossed_contents xs) o v) k ≡ slice_index (crossed_contents (slice_set xs p v)) k
+    at k h =
+        let i : k < length xs = grind (arith, length-crossed, length-set) in
+        grind (arith, get_or-crossed (slice_set xs p v) k, get_or-crossed xs k i, length-crossed xs, get_or-set_at, get_or-set_other, length-set, cross_inside (length xs) k i, cross_cross (length xs) k, cross_cross (length xs) o)
+
+-- the bytes of a unit are those of the unit below
+cleared_crossed : (xs : List ℕ) (unit_of : ℕ → ℕ) (u : ℕ) → cleared_unit (λ o. unit_of (crossed (length xs) o)) u (crossed_contents xs) ≡ crossed_contents (cleared_unit unit_of u xs)
+cleared_crossed xs unit_of u =
+    ext_get_or 0 _ _ (grind (arith, length-crossed, length-cleared)) (λ k h. grind (arith, get_or-crossed, length-crossed, get_or-cleared, length-cleared, cross_inside))
+
+-- the answers of a crossing are those of the part below, at the offset below
+module _ (xs : List ℕ) (o : ℕ) where
+  -- an answer that depends on the byte at an offset inside
+  at_byte : {X : Type 0} (f : ℕ → X) (e : X) → cond (nat_lt o (length (crossed_contents xs))) (f (slice_index (crossed_contents xs) o)) e ≡ cond (nat_lt (crossed (length xs) o) (length xs)) (f (slice_index xs (crossed (length xs) o))) e
+  at_byte f e = grind (arith, nat_tests, get_or-crossed, length-crossed, cross_inside, cross_outside)
+
+  pub read_crossed : read_answer (crossed_contents xs) o ≡ read_answer xs (crossed (length xs) o)
+  read_crossed = at_byte Ok (Err Outside)
+
+  module _ (s : Shape) (v : ℕ) where
+    pub question_crossed : question_answer (crossed_shape (length xs) s) (crossed_contents xs) o v ≡ question_answer s xs (crossed (length xs) o) v
+    question_crossed = at_byte (λ old. Ok (s.takes (crossed (length xs) o) old v)) (Err Outside)
+
+    pub put_crossed : put_answer (crossed_shape (length xs) s) (crossed_contents xs) o v ≡ put_answer s xs (crossed (length xs) o) v
+    put_crossed = at_byte (λ old. cond (s.takes (crossed (length xs) o) old v) (Ok tt) (Err NotTaken)) (Err Outside)
+
+    pub after_put_crossed : crossed_contents (after_put s xs (crossed (length xs) o) v) ≡ after_put (crossed_shape (length xs) s) (crossed_contents xs) o v
+    after_put_crossed = grind (arith, set-crossed xs o v, put_crossed)
+
+pub after_clear_crossed : (xs : List ℕ) (s : Shape) (u : ℕ) → crossed_contents (after_clear s xs u) ≡ after_clear (crossed_shape (length xs) s) (crossed_contents xs) u
+after_clear_crossed xs s u = grind (arith, cleared_crossed xs s.unit_of u)
+
+pub ruleset crossings = (length-crossed, read_crossed, question_crossed, put_crossed, after_put_crossed, after_clear_crossed, length-after_put, length-after_clear, crossed-twice)
