@@ -7,15 +7,13 @@ ghost use Rattle.loader.specs.Verdict.{outcome_of, verdict};
 mod crc;
 
 pub use crc::kochalluq_crc;
-use loader::check_file;
+use loader::{check_file, outcome};
 
-// The number of the outcome, 0 where the text is accepted. In C the text is a pointer and a length.
+// The number of the outcome, 0 where the text is accepted. In C the text is a pointer and a length, and
+// numbers stand for the target and for the outcome.
 #[unsafe(no_mangle)]
 pub extern "C" fn kochalluq_check(text: &[u8], target: u8, size: u64) -> u8
     ensures { result ≡ outcome_of (verdict text.now target size) }
 {
-    match check_file(text, target, size) {
-        Ok(()) => 0,
-        Err(refusal) => refusal.reason.number(),
-    }
+    outcome(check_file(text, target, size))
 }

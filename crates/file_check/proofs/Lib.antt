@@ -2,4 +2,3 @@ pub mod Lines
 pub mod Meanings
 pub mod Numbers
 pub mod Records
-pub mod Texts

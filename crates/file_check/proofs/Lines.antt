@@ -1,46 +1,20 @@
 -- Going down a text line by line. Assumes nothing.
-use Rattle.std.proofs.Common.{◌≡◌, ℕ, ◌-◌, ◌<◌, ◌≤◌, List, [], ◌∷◌, length, get_or, take, drop, sym, refl, ap, ◌∙◌, arith, take_all}
-use Rattle.std.proofs.lemmas.Bool.{eq-eqb, ne_eqb}
+use Rattle.std.proofs.Common.{◌≡◌, ℕ, ◌+◌, cond, eqb, ltb, List, [], ◌∷◌, length, drop, refl, arith}
+use Rattle.std.proofs.lemmas.Bool.Decides.{nat_tests}
+use Rattle.std.specs.List.{position_or_len}
 use Rattle.file_check.specs.Causes.{behind_lines}
 
--- what a text holds behind its first character, as a pattern takes it
-abbrev pub tail_of : List ℕ → List ℕ
-tail_of xs = take (length xs - 1) (drop 1 xs)
+-- where the first line ends
+abbrev pub feed_of : List ℕ → ℕ
+feed_of xs = position_or_len (λ c. eqb c 10) xs
 
-apart : (xs : List ℕ) → 0 < length xs → xs ≡ get_or xs 0 0 ∷ tail_of xs
-apart [] h = let no_way : ⊥ = omega arith in elim no_way [ ]
-apart (x ∷ xs) h = ap (λ ys. x ∷ ys) (sym (take_all (length (x ∷ xs) - 1) xs (omega arith)))
-
-on_feed : (n b : ℕ) (t : List ℕ) → 0 < n → b ≡ 10 → behind_lines n (b ∷ t) ≡ behind_lines (n - 1) t
+-- behind one line more, if there is one
+pub behind_feed : (n : ℕ) (xs : List ℕ) → behind_lines (n + 1) xs ≡ cond (ltb (feed_of xs) (length xs)) (behind_lines n (drop (feed_of xs + 1) xs)) []
 unfolding behind_lines
-on_feed n b t h e =
-    let z = ne_eqb n 0 (λ k. omega arith) in
-    let f = eq-eqb b 10 e in
-    rw (behind_lines, z, f)
+behind_feed n [] = refl
+behind_feed n (x ∷ xs) = grind (arith, nat_tests, behind_feed n xs)
 
-on_other : (n b : ℕ) (t : List ℕ) → 0 < n → (b ≡ 10 → ⊥) → behind_lines n (b ∷ t) ≡ behind_lines n t
+pub behind_none : (xs : List ℕ) → behind_lines 0 xs ≡ xs
 unfolding behind_lines
-on_other n b t h e =
-    let z = ne_eqb n 0 (λ k. omega arith) in
-    let f = ne_eqb b 10 e in
-    rw (behind_lines, z, f)
-
-pub past_feed : (n : ℕ) (xs : List ℕ) → 0 < n → 0 < length xs → get_or xs 0 0 ≡ 10 → behind_lines (n - 1) (tail_of xs) ≡ behind_lines n xs
-past_feed n xs h l e =
-    sym (ap (behind_lines n) (apart xs l) ∙ on_feed n (get_or xs 0 0) (tail_of xs) h e)
-
-pub past_other : (n : ℕ) (xs : List ℕ) → 0 < n → 0 < length xs → (get_or xs 0 0 ≡ 10 → ⊥) → behind_lines n (tail_of xs) ≡ behind_lines n xs
-past_other n xs h l e =
-    sym (ap (behind_lines n) (apart xs l) ∙ on_other n (get_or xs 0 0) (tail_of xs) h e)
-
-pub at-line : (n : ℕ) (xs : List ℕ) → n ≤ 0 → xs ≡ behind_lines n xs
-unfolding behind_lines
-at-line n [] h = refl
-at-line n (x ∷ xs) h =
-    let z = eq-eqb n 0 (omega arith) in
-    rw (behind_lines, z)
-
-pub at-end : (n : ℕ) (xs : List ℕ) → length xs ≤ 0 → xs ≡ behind_lines n xs
-unfolding behind_lines
-at-end n [] h = refl
-at-end n (x ∷ xs) h = let no_way : ⊥ = omega arith in elim no_way [ ]
+behind_none [] = refl
+behind_none (x ∷ xs) = refl

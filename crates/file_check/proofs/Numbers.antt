@@ -1,31 +1,21 @@
 -- What the parse of a number answers, by the words of specs/Words.antt. Assumes nothing.
-use Rattle.std.proofs.Common.{◌≡◌, ℕ, ◌^◌, ◌<◌, true, ◌&&◌, ltb, List, length, Some, None, refl, rules}
-use Rattle.std.specs.Str.Parse.{IsNumeral, digits_value}
+use Rattle.std.proofs.Common.{◌≡◌, ℕ, ◌^◌, ◌<◌, Bool, true, false, List, length, Ok, Err, Result, refl, rules, arith}
+use Rattle.std.specs.Result.{result_ok, OkIff}
+use Rattle.std.specs.Str.Parse.{IsNumeral, digits_value, without_leading_plus, ParsesUnsigned}
 use Rattle.std.specs.Str.{all_ascii_digits}
 use Rattle.std.proofs.lemmas.Str.Parse.{IsNumeralModel, numerals_by_fold}
-use Rattle.std.proofs.lemmas.Bool.{lt-ltb, ltb-true, and_parts, cond_both}
-use Rattle.file_check.specs.Words.{read_on, numeral}
+use Rattle.std.proofs.lemmas.Bool.Decides.{nat_tests}
+use Rattle.file_check.specs.Words.{read_on, numeral, size_of}
 
 own : IsNumeralModel (λ ds. all_ascii_digits ds ≡ true) (read_on 0)
 own = numerals_by_fold _ (search rules) read_on (search rules)
 
-pub numeral-some : (ds : List ℕ) (n : ℕ) → IsNumeral 10 ds × (digits_value 10 ds < 2 ^ 64) → n ≡ digits_value 10 ds → Some n ≡ numeral ds
-numeral-some ds n h e =
-    let a = lt-ltb 0 (length ds) h.0.0 in
-    let d = own.from ds h.0.1 in
-    let s = own.same ds h.0.1 in
-    let v : read_on 0 ds < 2 ^ 64 = rw s h.1 in
-    let l = lt-ltb (read_on 0 ds) (2 ^ 64) v in
-    rw (a, d, l) (cc)
-
-pub numeral-none : (ds : List ℕ) → (IsNumeral 10 ds × (digits_value 10 ds < 2 ^ 64) → ⊥) → None ≡ numeral ds
-numeral-none ds h =
-    cond_both (ltb 0 (length ds) && (all_ascii_digits ds && ltb (read_on 0 ds) (2 ^ 64))) (Some (read_on 0 ds)) None (λ o. None ≡ o)
-    (λ e.
-    let p = and_parts (ltb 0 (length ds)) (all_ascii_digits ds && ltb (read_on 0 ds) (2 ^ 64)) e in
-    let q = and_parts (all_ascii_digits ds) (ltb (read_on 0 ds) (2 ^ 64)) p.1 in
-    let g = own.to ds q.0 in
-    let s = own.same ds g in
-    let v : digits_value 10 ds < 2 ^ 64 = rw s at (ltb-true (read_on 0 ds) (2 ^ 64) q.1) in
-    elim (h ((ltb-true 0 (length ds) p.0, g), v)) [ ])
-    (λ _. refl)
+-- a text parses as the number of a size, where it is one
+pub size_read : {E : Type 0} (w : List ℕ) (r : Result ℕ E) → ParsesUnsigned 64 10 w r → result_ok r ≡ size_of w
+size_read w r h = go (without_leading_plus w) (all_ascii_digits (without_leading_plus w)) refl r h
+  where
+    go : {E : Type 0} (ds : List ℕ) (b : Bool) → all_ascii_digits ds ≡ b → (r : Result ℕ E) → OkIff r (IsNumeral 10 ds × (digits_value 10 ds < 2 ^ 64)) (digits_value 10 ds) → result_ok r ≡ numeral ds
+    go ds true q (Ok n) h = grind (arith, nat_tests, own.same ds (own.to ds q))
+    go ds true q (Err e) h = let k = λ (a : 0 < length ds) (b : digits_value 10 ds < 2 ^ 64). h ((a, own.to ds q), b) in grind (arith, nat_tests, own.same ds (own.to ds q), k)
+    go ds false q (Ok n) h = let a = own.from ds h.0.0.1 in cc
+    go ds false q (Err e) h = grind (arith, nat_tests)

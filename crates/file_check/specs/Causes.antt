@@ -1,5 +1,5 @@
 -- Why a file is refused, as far as advice differs.
-use Rattle.std.specs.Prelude.{ℕ, ◌+◌, ◌-◌, Bool, false, cond, ◌&&◌, List, [], ◌∷◌, length, ◌==◌, nat_lt}
+use Rattle.std.specs.Prelude.{ℕ, ◌+◌, ◌-◌, Bool, false, cond, ◌&&◌, List, [], ◌∷◌, length, ◌==◌, nat_lt, unwrap_or}
 use Rattle.srecord.specs.declared.line.Fault.{Fault}
 use Rattle.srecord.specs.declared.line.Fault.TheVariants as fault
 use Rattle.loader.specs.declared.file.Reason.{Reason}
@@ -64,6 +64,6 @@ reason_cause reason.NotRising text line = NotRising
 reason_cause reason.NotWhole text line = NotWhole
 reason_cause reason.NoData text line = NoData
 
--- the advice for a refusal of a text
+-- the advice for a refusal of a text, where line 0 stands for none
 abbrev pub cause_of : List ℕ → Refusal → Cause
-cause_of text r = reason_cause r.reason text r.line
+cause_of text r = reason_cause r.reason text (unwrap_or r.line 0)

@@ -1,24 +1,32 @@
 -- What is printed of a check.
-use Rattle.std.specs.Prelude.{ℕ, ◌/◌, Bool, cond, List, [], ◌∷◌, length, Ok, Err, Result, ◌==◌}
+use Rattle.std.specs.Prelude.{ℕ, ◌/◌, Bool, cond, List, [], length, Some, None, Ok, Err, Option, Result, ◌==◌, unwrap_or}
+use Rattle.std.specs.List.{filter_map}
+use Rattle.srecord.specs.declared.FaultAt.{FaultAt}
 use Rattle.srecord.specs.Reading.{Handed, coming_of}
 use Rattle.loader.specs.declared.file.Refusal.{Refusal}
-use Rattle.loader.specs.Verdict.{outcome_number}
-use Rattle.file_check.specs.declared.rows.Outcome.{Outcome}
 use Rattle.file_check.specs.declared.rows.Row.{Row}
 
--- a text that is taken has the number 0 and no line at fault
-abbrev pub outcome_of : Result (Unit {0}) Refusal → Outcome
-outcome_of (Ok u) = record { number = 0; line = 0 }
-outcome_of (Err f) = record { number = outcome_number f.reason; line = f.line }
+-- the line at fault, or 0 where none is
+abbrev pub line_shown : Result (Unit {0}) Refusal → ℕ
+line_shown (Ok u) = 0
+line_shown (Err f) = unwrap_or f.line 0
 
 -- two digits are a byte
 abbrev pub row_of : Handed → Row
 row_of h = record { line = h.line; address = h.address; bytes = length h.digits / 2 }
 
+-- the row of a record, if it has data
+abbrev pub data_row : Handed → Option Row
+data_row h = cond (length h.digits == 0) None (Some (row_of h))
+
+-- the row of a record with data that is handed out; a fault has none
+abbrev pub row_for : Result Handed FaultAt → Option Row
+row_for (Ok h) = data_row h
+row_for (Err f) = None
+
 -- a row for each record with data, in order
-unfoldable pub rows_of : List Handed → List Row
-rows_of [] = []
-rows_of (h ∷ hs) = cond (length h.digits == 0) (rows_of hs) (row_of h ∷ rows_of hs)
+abbrev pub rows_of : List Handed → List Row
+rows_of hs = filter_map data_row hs
 
 -- the rows of a text that is taken, unless only the outcome is asked for
 abbrev pub printed_of : Bool → Result (Unit {0}) Refusal → List ℕ → List Row

@@ -2,29 +2,23 @@
 use Rattle.std.specs.Prelude.{ℕ, ◌+◌, ◌-◌, ◌*◌, ◌^◌, Bool, false, cond, ◌&&◌, ◌||◌, List, [], ◌∷◌, length, Some, None, codes, Option, ◌==◌, nat_lt}
 use Rattle.std.specs.Str.Parse.{without_leading_plus}
 use Rattle.std.specs.Str.{bytes_eq, all_ascii_digits}
-use Rattle.file_check.specs.declared.words.Target.{Target}
-use Rattle.file_check.specs.declared.words.Target.TheVariants.{Flash, Boot, Data}
+use Rattle.file_check.specs.declared.words.TargetName.{TargetName}
+use Rattle.file_check.specs.declared.words.TargetName.TheVariants.{Flash, Boot, Data}
 use Rattle.file_check.specs.declared.words.Word.{Word}
 use Rattle.file_check.specs.declared.words.Word.TheVariants as lent
 
 -- the names of the targets
-abbrev pub name_of : Target → List ℕ
+abbrev pub name_of : TargetName → List ℕ
 name_of Flash = codes "flash"
 name_of Boot = codes "boot"
 name_of Data = codes "data"
 
 -- the target of a name; none where no target has it
-abbrev pub target_of : List ℕ → Option Target
+abbrev pub target_of : List ℕ → Option TargetName
 target_of w =
     cond (bytes_eq w (name_of Flash)) (Some Flash)
     (cond (bytes_eq w (name_of Boot)) (Some Boot)
     (cond (bytes_eq w (name_of Data)) (Some Data) None))
-
--- the numbers by which the loader knows them
-abbrev pub number_of : Target → ℕ
-number_of Flash = 0
-number_of Boot = 2
-number_of Data = 3
 
 -- the number that digits write, after those of n
 abbrev pub read_on : ℕ → List ℕ → ℕ

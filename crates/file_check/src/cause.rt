@@ -34,14 +34,16 @@ impl Cause {
     pub fn of(text: &[u8], refusal: Refusal) -> Cause
         ensures { result ≡ cause_of text.now refusal }
     {
+        // The causes that look at a line are of refusals that have one.
+        let line = refusal.line.unwrap_or(0);
         match refusal.reason {
             Reason::Target => Cause::Size,
             Reason::TextSize => Cause::TextSize,
-            Reason::File(Fault::Shape) => shape_cause(from_line(text, refusal.line)),
+            Reason::File(Fault::Shape) => shape_cause(from_line(text, line)),
             Reason::File(Fault::Checksum) => Cause::Checksum,
             Reason::File(Fault::Order) => Cause::Order,
             Reason::File(Fault::NoEnd) => end_cause(text),
-            Reason::File(Fault::Count) => count_cause(text, refusal.line),
+            Reason::File(Fault::Count) => count_cause(text, line),
             Reason::NotRising => Cause::NotRising,
             Reason::NotWhole => Cause::NotWhole,
             Reason::NoData => Cause::NoData,
@@ -50,19 +52,16 @@ impl Cause {
 }
 
 // The text from a line on, counted from 1.
+#[tactic(auto, using(crate::proofs::Lines::behind_feed, crate::proofs::Lines::behind_none))]
 fn from_line(text: &[u8], line: usize) -> &[u8]
     ensures { result.now ≡ behind_lines (line - 1) text.now }
 {
-    let mut above = line.saturating_sub(1);
     let mut rest = text;
-    while above > 0 {
-        let [c, tail @ ..] = rest else {
-            break;
+    for _ in 1..line {
+        let Some(feed) = rest.iter().position(|c| *c == b'\n') else {
+            return &[];
         };
-        if *c == b'\n' {
-            above -= 1;
-        }
-        rest = tail;
+        rest = &rest[feed + 1..];
     }
     rest
 }
@@ -96,10 +95,7 @@ fn end_cause(text: &[u8]) -> Cause
 fn count_cause(text: &[u8], line: usize) -> Cause
     ensures { result ≡ count_cause text.now line }
 {
-    let headers = match text {
-        [b'S', b'0', ..] => 1,
-        _ => 0,
-    };
+    let headers = usize::from(text.starts_with(b"S0"));
     if line.saturating_sub(1 + headers) > MAX_COUNTED {
         Cause::ManyLines
     } else {

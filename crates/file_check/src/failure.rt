@@ -1,6 +1,9 @@
 // What ends the program with status 1, and the one line that is told of it.
+ghost use Rattle.std.specs.Prelude.{◌≡◌};
+ghost use Rattle.file_check.specs.declared.failure.Failure.TheVariants.{Misused, Output};
+
 use crate::advice::Advice;
-use crate::words::Target;
+use crate::words::TargetName;
 use std::{fmt, io};
 
 // What is wrong with a command line, and the word at fault.
@@ -12,7 +15,7 @@ pub enum Misuse<'a> {
     SecondFile(&'a str),
     NoTarget,
     NoSize,
-    SizeWanted(Target),
+    SizeWanted(TargetName),
 }
 
 // A word is shown in quotes, with its line breaks escaped, so that the message stays one line.
@@ -45,6 +48,8 @@ impl fmt::Display for Misuse<'_> {
 
 #[derive(Drop)]
 pub enum Failure<'a> {
+    // a word of the command line that cannot be read
+    Words(io::Error),
     Misused(Misuse<'a>),
     // a file that cannot be opened or read
     Text(&'a str, io::Error),
@@ -52,9 +57,30 @@ pub enum Failure<'a> {
     Output(io::Error),
 }
 
+impl<'a> From<Misuse<'a>> for Failure<'a> {
+    ghost from_gives = { λ misuse r. r ≡ Misused misuse };
+
+    fn from(misuse: Misuse<'a>) -> Self {
+        Self::Misused(misuse)
+    }
+}
+
+// A word or a text that cannot be read has its own variant, so any other error is one of the output.
+impl From<io::Error> for Failure<'_> {
+    ghost from_gives = { λ error r. r ≡ Output error };
+
+    fn from(error: io::Error) -> Self {
+        Self::Output(error)
+    }
+}
+
 impl fmt::Display for Failure<'_> {
     fn fmt<W: fmt::Write>(&self, f: &mut fmt::Formatter<W>) -> fmt::Result {
         match self {
+            Failure::Words(error) => write!(
+                f,
+                "check: a word of the command line cannot be read, {error}: it must be UTF-8, and a file of another name can be given by standard input; try check --help"
+            ),
             Failure::Misused(misuse) => write!(f, "check: {misuse}; try check --help"),
             Failure::Text(file, error) => {
                 write!(

@@ -1,12 +1,14 @@
-// What a command line asks for: its words are taken one by one.
+// What a command line asks for.
 ghost use Rattle.std.specs.Prelude.{◌≡◌, map, string_bytes};
-ghost use Rattle.file_check.specs.Words.{said_by, target_of, size_of};
-ghost use Rattle.file_check.specs.Options.{settings_by, step_by, answer_by, meaning_of, awaiting as awaiting_by, taken, any_taken, target_taken, size_taken, file_taken, ended, asked, size_for};
+ghost use Rattle.std.specs.Option.{ok_or};
+ghost use Rattle.file_check.specs.Words.{target_of, size_of};
+ghost use Rattle.file_check.specs.Options.{unknown_target, no_number, settings_by, step_by, read_by, answer_by, meaning_of, file_taken, asked};
 
 use crate::failure::Misuse;
-use crate::words::{Target, Word, read_word};
+use crate::words::{TargetName, Word, read_word};
+use loader::Target;
 
-// The name that stands for standard input.
+// The name that stands for standard input; messages tell it as they tell that of a file.
 pub const STANDARD_INPUT: &str = "-";
 
 // How a file is to be checked.
@@ -14,8 +16,6 @@ pub const STANDARD_INPUT: &str = "-";
 pub struct Options<'a> {
     pub quiet: bool,
     pub target: Target,
-    // the EEPROM's bytes; of no account for flash
-    pub size: u64,
     pub file: &'a str,
 }
 
@@ -25,157 +25,94 @@ pub enum Command<'a> {
     Check(Options<'a>),
 }
 
-// What the next word is.
-#[derive(Clone, Copy)]
-pub enum Next {
-    Any,
-    TargetName,
-    SizeNumber,
-    FileName,
-    // help was asked for, and no word counts any more
-    Nothing,
-}
-
 // What the words so far have said.
 #[derive(Clone, Copy)]
 pub struct Parse<'a> {
     quiet: bool,
-    target: Target,
+    target: TargetName,
     size: Option<u64>,
     file: Option<&'a str>,
-    next: Next,
 }
 
 // What the words behind the program's name ask for.
+#[tactic(auto, using(crate::proofs::Meanings::word_steps))]
 pub fn parse_words(words: &[String]) -> Result<Command<'_>, Misuse<'_>>
     ensures { answer_by result ≡ meaning_of (map string_bytes words.now) }
 {
     let mut so_far = Parse {
         quiet: false,
-        target: Target::Flash,
+        target: TargetName::Flash,
         size: None,
         file: None,
-        next: Next::Any,
     };
-    for word in words {
-        so_far = so_far.take(word.as_str())?;
+    let mut rest = words.iter();
+    while let Some(word) = rest.next() {
+        match read_word(word.as_str()) {
+            Word::Quiet => so_far.quiet = true,
+            Word::Help => return Ok(Command::Help),
+            Word::TargetNext => {
+                let name = rest.next().ok_or(Misuse::NoTarget)?;
+                so_far.target = read_target(name.as_str())?;
+            }
+            Word::SizeNext => {
+                let number = rest.next().ok_or(Misuse::NoSize)?;
+                so_far.size = Some(read_size(number.as_str())?);
+            }
+            Word::FilesNext => break,
+            Word::TargetIs(name) => so_far.target = read_target(name)?,
+            Word::SizeIs(number) => so_far.size = Some(read_size(number)?),
+            Word::File(name) => so_far = so_far.with_file(name)?,
+            Word::Unknown(word) => return Err(Misuse::UnknownOption(word)),
+        }
     }
-    so_far.end()
+    // Behind `--` each word names a file.
+    for name in rest {
+        so_far = so_far.with_file(name.as_str())?;
+    }
+    so_far.command()
 }
 
-// The number of a size; none where the word is no number of 64 bits.
-fn read_size(word: &str) -> Option<u64>
-    ensures { result ≡ size_of word.now }
+fn read_target(name: &str) -> Result<TargetName, Misuse<'_>>
+    ensures { read_by result ≡ ok_or (target_of name.now) (unknown_target name.now) }
 {
-    match word.parse::<u64>() {
-        Ok(size) => Some(size),
-        Err(_) => None,
-    }
+    name.parse().map_err(|_| Misuse::UnknownTarget(name))
+}
+
+// A size is a number of 64 bits.
+#[tactic(auto, using(crate::proofs::Numbers::size_read))]
+fn read_size(number: &str) -> Result<u64, Misuse<'_>>
+    ensures { read_by result ≡ ok_or (size_of number.now) (no_number number.now) }
+{
+    number.parse().map_err(|_| Misuse::NoNumber(number))
 }
 
 impl<'a> Parse<'a> {
-    // With one word more.
-    fn take(self, word: &'a str) -> Result<Parse<'a>, Misuse<'a>>
-        ensures { step_by result ≡ taken (settings_by self.entry) word.now }
-    {
-        match self.next {
-            Next::Any => self.take_any(read_word(word)),
-            Next::TargetName => self.take_target(word),
-            Next::SizeNumber => self.take_size(word),
-            Next::FileName => self.take_file(word),
-            Next::Nothing => Ok(self),
-        }
-    }
-
-    fn awaiting(self, next: Next) -> Parse<'a>
-        ensures { settings_by result ≡ awaiting_by (settings_by self.entry) next }
-    {
-        Parse { next, ..self }
-    }
-
-    fn take_any(self, word: Word<'a>) -> Result<Parse<'a>, Misuse<'a>>
-        ensures { step_by result ≡ any_taken (settings_by self.entry) (said_by word.entry) }
-    {
-        match word {
-            Word::Quiet => Ok(Parse {
-                quiet: true,
-                ..self
-            }),
-            Word::Help => Ok(self.awaiting(Next::Nothing)),
-            Word::TargetNext => Ok(self.awaiting(Next::TargetName)),
-            Word::SizeNext => Ok(self.awaiting(Next::SizeNumber)),
-            Word::FilesNext => Ok(self.awaiting(Next::FileName)),
-            Word::TargetIs(name) => self.take_target(name),
-            Word::SizeIs(number) => self.take_size(number),
-            Word::File(name) => self.take_file(name),
-            Word::Unknown(word) => Err(Misuse::UnknownOption(word)),
-        }
-    }
-
-    fn take_target(self, name: &'a str) -> Result<Parse<'a>, Misuse<'a>>
-        ensures { step_by result ≡ target_taken (settings_by self.entry) name.now (target_of name.now) }
-    {
-        match Target::named(name) {
-            Some(target) => Ok(Parse {
-                target,
-                next: Next::Any,
-                ..self
-            }),
-            None => Err(Misuse::UnknownTarget(name)),
-        }
-    }
-
-    fn take_size(self, number: &'a str) -> Result<Parse<'a>, Misuse<'a>>
-        ensures { step_by result ≡ size_taken (settings_by self.entry) number.now (size_of number.now) }
-    {
-        match read_size(number) {
-            Some(size) => Ok(Parse {
-                size: Some(size),
-                next: Next::Any,
-                ..self
-            }),
-            None => Err(Misuse::NoNumber(number)),
-        }
-    }
-
-    fn take_file(self, name: &'a str) -> Result<Parse<'a>, Misuse<'a>>
+    fn with_file(self, name: &'a str) -> Result<Parse<'a>, Misuse<'a>>
         ensures { step_by result ≡ file_taken (settings_by self.entry) name.now }
     {
-        match self.file {
-            Some(_) => Err(Misuse::SecondFile(name)),
-            None => Ok(Parse {
-                file: Some(name),
-                ..self
-            }),
+        if self.file.is_some() {
+            return Err(Misuse::SecondFile(name));
         }
+        Ok(Parse {
+            file: Some(name),
+            ..self
+        })
     }
 
     // What is asked for where no word follows.
-    fn end(self) -> Result<Command<'a>, Misuse<'a>>
-        ensures { answer_by result ≡ ended (settings_by self.entry) }
+    fn command(self) -> Result<Command<'a>, Misuse<'a>>
+        ensures { answer_by result ≡ asked (settings_by self.entry) }
     {
-        match self.next {
-            Next::Nothing => Ok(Command::Help),
-            Next::TargetName => Err(Misuse::NoTarget),
-            Next::SizeNumber => Err(Misuse::NoSize),
-            Next::Any | Next::FileName => self.options(),
-        }
-    }
-
-    fn options(self) -> Result<Command<'a>, Misuse<'a>>
-        ensures { answer_by result ≡ asked (settings_by self.entry) (size_for self.entry.target self.entry.size) }
-    {
-        let size = match (self.target, self.size) {
-            (_, Some(size)) => size,
-            (Target::Flash, None) => 0,
-            (target, None) => return Err(Misuse::SizeWanted(target)),
+        let target = match (self.target, self.size) {
+            (TargetName::Flash, _) => Target::Flash,
+            (TargetName::Boot, Some(size)) => Target::Boot { size },
+            (TargetName::Data, Some(size)) => Target::Data { size },
+            (name, None) => return Err(Misuse::SizeWanted(name)),
         };
-        let file = self.file.unwrap_or(STANDARD_INPUT);
         Ok(Command::Check(Options {
             quiet: self.quiet,
-            target: self.target,
-            size,
-            file,
+            target,
+            file: self.file.unwrap_or(STANDARD_INPUT),
         }))
     }
 }

@@ -1,10 +1,12 @@
 // The output: a row for each record with data, and the outcome.
-ghost use Rattle.std.specs.Prelude.{◌≡◌, ◌++◌, IfOk, Some, codes, decimal};
+ghost use Rattle.std.specs.Prelude.{◌≡◌, ◌++◌, IfOk, Some, codes, decimal, unwrap_or};
 ghost use Rattle.srecord.specs.Reading.{coming_of, handed_by};
-ghost use Rattle.file_check.specs.Printed.{outcome_of, row_of, rows_of, printed_of};
+ghost use Rattle.srecord.specs.Records.{handed_or_fault};
+ghost use Rattle.loader.specs.Verdict.{outcome_of};
+ghost use Rattle.file_check.specs.Printed.{line_shown, row_of, row_for, rows_of, printed_of};
 
-use loader::Refusal;
-use srecord::{Reader, Record};
+use loader::{Refusal, outcome};
+use srecord::{FaultAt, Reader, Record};
 use std::alloc::{AllocError, Global};
 use std::fmt;
 
@@ -16,10 +18,10 @@ pub struct Row {
     bytes: usize,
 }
 
-impl Row {
-    fn of(found: Record<'_>) -> Row
-        ensures { result ≡ row_of (handed_by found.entry) }
-    {
+impl From<Record<'_>> for Row {
+    ghost from_gives = { λ found r. r ≡ row_of (handed_by found) };
+
+    fn from(found: Record<'_>) -> Row {
         Row {
             line: found.line,
             address: found.address,
@@ -58,42 +60,39 @@ pub fn printed_rows(
 fn data_rows(heap: Global, text: &[u8]) -> Result<Vec<Row>, AllocError>
     ensures { IfOk result (λ v. v.items ≡ rows_of (coming_of text.now).records) }
 {
-    let mut rows = Vec::new(heap);
-    let mut reader = Reader::new(text);
-    while let Ok(Some(found)) = reader.next_record() {
-        if !found.digits.is_empty() {
-            rows.push(Row::of(found))?;
-        }
-    }
-    Ok(rows)
+    Reader::new(text)
+        .records()
+        .filter_map(row_for)
+        .collect(heap)
 }
 
-// How a check ended: the number of the outcome, and the line at fault, 0 where none is.
+// The row of a record with data; none for one without, and none for a fault.
+fn row_for(found: Result<Record<'_>, FaultAt>) -> Option<Row>
+    ensures { result ≡ row_for (handed_or_fault found.entry) }
+{
+    found
+        .ok()
+        .filter(|record| !record.digits.is_empty())
+        .map(Row::from)
+}
+
+// The line at fault as it is shown: 0 where no line is.
+pub fn shown(line: Option<usize>) -> usize
+    ensures { result ≡ unwrap_or line 0 }
+{
+    line.unwrap_or(0)
+}
+
+// The row of how a check ended: the number of the outcome, and the line at fault, 0 where none is.
 #[derive(Clone, Copy)]
-pub struct Outcome {
-    number: u8,
-    line: usize,
-}
-
-impl Outcome {
-    pub fn of(checked: Result<(), Refusal>) -> Outcome
-        ensures { result ≡ outcome_of checked }
-    {
-        match checked {
-            Ok(()) => Outcome { number: 0, line: 0 },
-            Err(refusal) => Outcome {
-                number: refusal.reason.number(),
-                line: refusal.line,
-            },
-        }
-    }
-}
+pub struct Outcome(pub Result<(), Refusal>);
 
 impl fmt::Display for Outcome {
-    ghost output = { λ o. Some (codes "R\t" ++ (decimal o.number ++ (codes "\t" ++ decimal o.line))) };
+    ghost output = { λ o. Some (codes "R\t" ++ (decimal (outcome_of o.0) ++ (codes "\t" ++ decimal (line_shown o.0)))) };
 
     fn fmt<W: fmt::Write>(&self, f: &mut fmt::Formatter<W>) -> fmt::Result {
-        let Outcome { number, line } = *self;
+        let number = outcome(self.0);
+        let line = shown(self.0.err().and_then(|refusal| refusal.line));
         write!(f, "R\t{number}\t{line}")
     }
 }

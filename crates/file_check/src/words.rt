@@ -1,50 +1,46 @@
 // What the words of a command line say, each by itself.
 ghost use Rattle.std.specs.Prelude.{◌≡◌, Some};
-ghost use Rattle.file_check.specs.Words.{target_of, name_of, number_of, said_by, word_of, other_of};
+ghost use Rattle.std.specs.Result.{result_ok};
+ghost use Rattle.file_check.specs.Words.{target_of, name_of, said_by, word_of, other_of};
 
 use std::fmt;
+use std::str::FromStr;
 
-// What a file is loaded into.
+// The name of what a file is loaded into.
 #[derive(Clone, Copy, PartialEq, Eq, Debug)]
-pub enum Target {
+pub enum TargetName {
     Flash,
     Boot,
     Data,
 }
 
-impl Target {
-    // The target of a name; none where no target has it.
-    pub fn named(name: &str) -> Option<Target>
-        ensures { result ≡ target_of name.now }
-    {
-        match name {
-            "flash" => Some(Target::Flash),
-            "boot" => Some(Target::Boot),
-            "data" => Some(Target::Data),
-            _ => None,
-        }
-    }
+// The error for a name that no target has.
+#[derive(Clone, Copy, PartialEq, Eq, Debug)]
+pub struct UnknownName;
 
-    // The number by which the loader knows the target.
-    pub fn number(self) -> u8
-        ensures { result ≡ number_of self }
-    {
-        match self {
-            Target::Flash => 0,
-            Target::Boot => 2,
-            Target::Data => 3,
+impl FromStr for TargetName {
+    type Err = UnknownName;
+
+    ghost from_str_gives = { λ name r. result_ok r ≡ target_of name };
+
+    fn from_str(name: &str) -> Result<TargetName, UnknownName> {
+        match name {
+            "flash" => Ok(TargetName::Flash),
+            "boot" => Ok(TargetName::Boot),
+            "data" => Ok(TargetName::Data),
+            _ => Err(UnknownName),
         }
     }
 }
 
-impl fmt::Display for Target {
+impl fmt::Display for TargetName {
     ghost output = { λ t. Some (name_of t) };
 
     fn fmt<W: fmt::Write>(&self, f: &mut fmt::Formatter<W>) -> fmt::Result {
         f.write_str(match *self {
-            Target::Flash => "flash",
-            Target::Boot => "boot",
-            Target::Data => "data",
+            TargetName::Flash => "flash",
+            TargetName::Boot => "boot",
+            TargetName::Data => "data",
         })
     }
 }
@@ -86,12 +82,10 @@ fn read_other(word: &str) -> Word<'_>
     ensures { said_by result ≡ other_of word.now }
 {
     if let Some(name) = word.strip_prefix("--target=") {
-        return Word::TargetIs(name);
-    }
-    if let Some(number) = word.strip_prefix("--size=") {
-        return Word::SizeIs(number);
-    }
-    if word.starts_with('-') {
+        Word::TargetIs(name)
+    } else if let Some(number) = word.strip_prefix("--size=") {
+        Word::SizeIs(number)
+    } else if word.starts_with('-') {
         Word::Unknown(word)
     } else {
         Word::File(word)

@@ -102,7 +102,7 @@ module _ (w : ℕ) (all : List (List ℕ)) where
         ∙ (λ i. fault_from w (contents_of (take_at before (l ∷ ls) n u.long i)) (line_of (get_or_at before l ls [] n u.long i)))
         ∙ (λ i. fault_from w (u.said i) (e i))
 
-    refuses : (r : Result Content Fault) (x : Reason) → line_of l ≡ r → fault_from w cs r ≡ Some x → Means w all (refused_at x (n + 1))
+    refuses : (r : Result Content Fault) (x : Reason) → line_of l ≡ r → fault_from w cs r ≡ Some x → Means w all (refused_at x (Some (n + 1)))
     refuses r x e f =
         let long = simp length-append at (ap length u.split) in
         inl (n, record { inside = omega arith; first = u.first; fault = fault_here r e ∙ f }, refl)
@@ -133,7 +133,7 @@ module _ (w : ℕ) (all : List (List ℕ)) where
       at_all : (t : Content → Bool) → any_of t (contents_of all) ≡ any_of t cs
       at_all t = ap (λ ls. any_of t (contents_of ls)) same ∙ ap (any_of t) u.said
 
-      go : (a b : Bool) → any_of is_end cs ≡ a → any_of has_data cs ≡ b → Means w all (at_last b (cond a None (Some (record { fault = NoEnd; line = 0 }))))
+      go : (a b : Bool) → any_of is_end cs ≡ a → any_of has_data cs ≡ b → Means w all (at_last b (cond a None (Some (record { fault = NoEnd; line = None }))))
       go false b h i = inr (inl (record { first = clean; none = at_all is_end ∙ h }, refl))
       go true false h i = inr (inr (record { first = clean; ended = at_all is_end ∙ h; none = at_all has_data ∙ i }, refl))
       go true true h i = clean
@@ -146,7 +146,7 @@ module _ (w : ℕ) (all : List (List ℕ)) where
       fault c r o = place_follow s c ∙ ap (ordered (addressed w cs c)) o
 
       -- a line with a fault that can be read
-      misplaced : (c : Content) (r : Result Phase Fault) (x : Reason) → line_of l ≡ Ok c → follow p k c ≡ r → ordered (addressed w cs c) r ≡ Some x → Means w all (refused_at x (n + 1))
+      misplaced : (c : Content) (r : Result Phase Fault) (x : Reason) → line_of l ≡ Ok c → follow p k c ≡ r → ordered (addressed w cs c) r ≡ Some x → Means w all (refused_at x (Some (n + 1)))
       misplaced c r x h o f = refuses u (Ok c) x h (fault c r o ∙ f)
 
       -- a line with no fault

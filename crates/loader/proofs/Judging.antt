@@ -1,35 +1,30 @@
 -- What a verdict means, from the laws of the reader and of the check. Assumes nothing.
-use Rattle.std.proofs.Common.{◌≡◌, ℕ, ◌+◌, ◌/◌, ◌%◌, ◌≤◌, Bool, true, false, cond, ◌&&◌, ◌||◌, eqb, ltb, leb, ◌⊎◌, List, [], ◌∷◌, length, Some, None, Ok, Err, Option, Result, sym, refl, ap, ◌∙◌, subst, inl, inr, ⊎_elim, arith, MatchOption}
+use Rattle.std.proofs.Common.{◌≡◌, ℕ, ◌+◌, ◌/◌, ◌%◌, ◌≤◌, Bool, true, false, cond, eqb, ltb, List, [], ◌∷◌, length, Some, None, Ok, Err, Option, Result, sym, refl, ap, ◌∙◌, subst, inl, inr, arith}
 use Rattle.std.specs.Option.{option_to_list}
 use Rattle.std.specs.List.{AllByRecursion}
 use Rattle.std.proofs.ByRecursion.{All-weaker, All-from_get_or}
-use Rattle.std.proofs.lemmas.Option.{MatchOption-at_some, MatchOption-at_none}
-use Rattle.std.proofs.lemmas.Bool.{true≢false, and_parts, and_from, leb-true, le-leb, eqb-true, eqb-false, ltb-true, ltb-false, eq-eqb, ne_eqb, le-ltb, cond-true, cond-false}
+use Rattle.std.proofs.lemmas.Bool.{true≢false, eqb-true, eqb-false, ltb-true, ltb-false, eq-eqb, ne_eqb, le-ltb, cond-true, cond-false}
+use Rattle.std.proofs.lemmas.Bool.Decides.{nat_tests}
 use Rattle.srecord.specs.declared.FaultAt.{FaultAt}
 use Rattle.srecord.specs.File.{Entry, File, WritesFile, Hands, HandsAll, HandsFile}
 use Rattle.srecord.specs.Reading.{Handed, coming_of}
+use Rattle.srecord.specs.Text.{lines_of}
 use Rattle.srecord.proofs.Files.{file_sound, file_complete}
 use Rattle.srecord.proofs.Pairs.{length-bytes, decoded-bytes}
 use Rattle.loader.specs.declared.file.Reason.{Reason}
 use Rattle.loader.specs.declared.file.Reason.TheVariants.{TextSize, NotRising, NotWhole}
 use Rattle.loader.specs.declared.file.Refusal.{Refusal}
-use Rattle.loader.specs.Law.{IsTarget, start_of, end_of, HasData, Rising, Suits, Holds, Refuses, Judges}
-use Rattle.loader.specs.Target.{bytes_per_address}
+use Rattle.loader.specs.Law.{IsTarget, start_of, end_of, HasData, Rising, Suits, Holds, Faultless, Refuses, Judges}
+use Rattle.loader.specs.Target.{target_of, width_for, bytes_per_address}
 use Rattle.loader.specs.Verdict.{byte_count, end_after, goes_on, at_last, suits_from, suits, refused_at, verdict_for, verdict}
-use Rattle.loader.proofs.Faults.{suits-refused}
-
-err_ok : {x : Refusal} → ◌≡◌ {A = Result (Unit {0}) Refusal} (Err x) (Ok tt) → ⊥
-err_ok {x} e = let z : ◌≡◌ {A = ℕ} 0 1 = cc in omega arith
-
-err_same : {x y : Refusal} → ◌≡◌ {A = Result (Unit {0}) Refusal} (Err x) (Err y) → x ≡ y
-err_same {x} {y} e = cc
+use Rattle.loader.proofs.Faults.{suits-refused, suits-accepted}
 
 -- ---- what has passed suits the target
 
 at-last_none : (any : Bool) (f : Option FaultAt) → at_last any f ≡ Ok tt → (f ≡ None) × (any ≡ true)
-at-last_none any (Some f) e = absurd (err_ok e)
+at-last_none any (Some f) e = cc
 at-last_none true None e = (refl, refl)
-at-last_none false None e = absurd (err_ok e)
+at-last_none false None e = cc
 
 -- the bytes of a record that is handed out are those of its line
 hands-many : (n : ℕ) (r : Handed) (x : Entry) → Hands n r x → byte_count r ≡ length x.bytes
@@ -83,8 +78,8 @@ passed w e any n (r ∷ rs) (x ∷ es) f h k =
         → cond a (suits_from w e any rs f) (goes_on (λ next. suits_from w next true rs f) r.line (cond b (cond c (Err NotRising) (Ok (r.address + byte_count r / w))) (Err NotWhole))) ≡ Ok tt
         → Passed w e any (x ∷ es) f
     by skip on true b c p q s k = passed_empty w x es f e any (sym many ∙ eqb-true (byte_count r) 0 p) (skip k)
-    by skip on false false c p q s k = absurd (err_ok k)
-    by skip on false true true p q s k = absurd (err_ok k)
+    by skip on false false c p q s k = cc
+    by skip on false true true p q s k = cc
     by skip on false true false p q s k =
         passed_data w x es f e any (λ none. eqb-false (byte_count r) 0 p (many ∙ none)) (ap (λ m. m % w) (sym many) ∙ eqb-true (byte_count r % w) 0 q)
         (subst (λ (m : ℕ). e ≤ m) at (ltb-false r.address e s))
@@ -130,43 +125,15 @@ passes w e any n (r ∷ rs) (x ∷ es) h p =
 
 -- ---- the targets
 
-width_of : (target size : ℕ) → MatchOption (bytes_per_address target size) ((w : ℕ) → IsTarget target size w → ⊥) (λ w. IsTarget target size w)
-width_of target size = go (eqb target 0) (eqb target 2) (eqb target 3) (leb 1 size && leb size 1048576) refl refl refl refl
-  where
-    sized : (leb 1 size && leb size 1048576) ≡ true → (1 ≤ size) × (size ≤ 1048576)
-    sized h = let p = and_parts (leb 1 size) (leb size 1048576) h in (leb-true 1 size p.0, leb-true size 1048576 p.1)
-
-    unsized : (leb 1 size && leb size 1048576) ≡ false → (1 ≤ size) × (size ≤ 1048576) → ⊥
-    unsized h k = true≢false (sym (and_from (leb 1 size) (leb size 1048576) (le-leb 1 size k.0) (le-leb size 1048576 k.1)) ∙ h)
-
-    none : (target ≡ 0 → ⊥) → ((target ≡ 2) ⊎ (target ≡ 3) → (1 ≤ size) × (size ≤ 1048576) → ⊥) → (w : ℕ) → IsTarget target size w → ⊥
-    none a b w (inl h) = a h.0
-    none a b w (inr h) = b h.0 (h.1, h.2)
-
-    go : (a b c s : Bool) → eqb target 0 ≡ a → eqb target 2 ≡ b → eqb target 3 ≡ c → (leb 1 size && leb size 1048576) ≡ s
-        → MatchOption (cond a (Some 2) (cond ((b || c) && s) (Some 1) None)) ((w : ℕ) → IsTarget target size w → ⊥) (λ w. IsTarget target size w)
-    go true b c s p q r t = inl (eqb-true target 0 p, refl)
-    go false true c true p q r t = let k = sized t in inr (inl (eqb-true target 2 q), k.0, k.1, refl)
-    go false true c false p q r t = none (eqb-false target 0 p) (λ _. unsized t)
-    go false false true true p q r t = let k = sized t in inr (inr (eqb-true target 3 r), k.0, k.1, refl)
-    go false false true false p q r t = none (eqb-false target 0 p) (λ _. unsized t)
-    go false false false s p q r t = none (eqb-false target 0 p) (λ h _. ⊎_elim (eqb-false target 2 q) (eqb-false target 3 r) h)
-
--- a number has one width at most
-width_same : (target size v w : ℕ) → IsTarget target size v → IsTarget target size w → v ≡ w
-width_same target size v w (inl h) (inl k) = omega arith
-width_same target size v w (inl h) (inr (inl k, a, b, c)) = omega arith
-width_same target size v w (inl h) (inr (inr k, a, b, c)) = omega arith
-width_same target size v w (inr (inl k, a, b, c)) (inl h) = omega arith
-width_same target size v w (inr (inr k, a, b, c)) (inl h) = omega arith
-width_same target size v w (inr h) (inr k) = h.3 ∙ sym k.3
-
 target-width : (target size w : ℕ) → IsTarget target size w → bytes_per_address target size ≡ Some w
-target-width target size w h = by (bytes_per_address target size) (width_of target size)
-  where
-    by : (o : Option ℕ) → MatchOption o ((v : ℕ) → IsTarget target size v → ⊥) (λ v. IsTarget target size v) → o ≡ Some w
-    by None k = absurd (k w h)
-    by (Some v) k = ap Some (width_same target size v w k h)
+target-width target size w h = grind (arith, nat_tests)
+
+width-target : (target size w : ℕ) → bytes_per_address target size ≡ Some w → IsTarget target size w
+width-target target size w e = grind (arith, nat_tests)
+
+-- the bytes of an address by the target that has the number
+pub width_by_number : (target size : ℕ) → width_for (target_of target size) ≡ bytes_per_address target size
+width_by_number target size = grind (arith, nat_tests)
 
 -- ---- the verdict
 
@@ -192,20 +159,20 @@ fault-none w e any (r ∷ rs) f k = by (fault-none w e any rs f) (λ m. fault-no
         → (a : Bool) (b : Result ℕ Reason) → cond a (suits_from w e any rs f) (goes_on (λ next. suits_from w next true rs f) r.line b) ≡ Ok tt → f ≡ None
     by skip on true b k = skip k
     by skip on false (Ok m) k = on m k
-    by skip on false (Err x) k = absurd (err_ok k)
+    by skip on false (Err x) k = cc
 
 module _ (text : List ℕ) (target size : ℕ) where
   accepted_for : (o : Option ℕ) → bytes_per_address target size ≡ o → verdict_for text o ≡ Ok tt → (w : ℕ) × IsTarget target size w × (length text ≤ 4194304) × ((f : File) × Holds w text f)
-  accepted_for None b e = absurd (err_ok e)
+  accepted_for None b e = cc
   accepted_for (Some w) b e = by (ltb 4194304 (length text)) refl e
     where
-      by : (a : Bool) → ltb 4194304 (length text) ≡ a → cond a (refused_at TextSize 0) (suits w (coming_of text)) ≡ Ok tt → (w : ℕ) × IsTarget target size w × (length text ≤ 4194304) × ((f : File) × Holds w text f)
-      by true q k = absurd (err_ok k)
+      by : (a : Bool) → ltb 4194304 (length text) ≡ a → cond a (refused_at TextSize None) (suits w (coming_of text)) ≡ Ok tt → (w : ℕ) × IsTarget target size w × (length text ≤ 4194304) × ((f : File) × Holds w text f)
+      by true q k = cc
       by false q k =
           let none = fault-none w 0 false (coming_of text).records (coming_of text).fault k in
           let f = file_sound text none in
           let p = passed w 0 false (length (option_to_list f.0.header)) (coming_of text).records f.0.records (coming_of text).fault f.2 k in
-          (w, MatchOption-at_some _ (IsTarget target size) w b (width_of target size), ltb-false 4194304 (length text) q, (f.0, record { writes = f.1; suits = record { whole = p.whole; rising = p.rising; some = p.some refl }; hands = f.2 }))
+          (w, width-target target size w b, ltb-false 4194304 (length text) q, (f.0, record { writes = f.1; suits = record { whole = p.whole; rising = p.rising; some = p.some refl }; hands = f.2 }))
 
   accepts_for : (w : ℕ) (f : File) → IsTarget target size w → length text ≤ 4194304 → WritesFile f text → Suits w f.records → (verdict text target size ≡ Ok tt) × HandsFile (coming_of text).records f
   accepts_for w f b short wr s =
@@ -216,17 +183,30 @@ module _ (text : List ℕ) (target size : ℕ) where
         r.1,
       )
 
+  faultless_for : (o : Option ℕ) → bytes_per_address target size ≡ o → verdict_for text o ≡ Ok tt → (w : ℕ) × IsTarget target size w × Faultless w (lines_of text) (length (lines_of text))
+  faultless_for None b e = cc
+  faultless_for (Some w) b e = by (ltb 4194304 (length text)) e
+    where
+      by : (a : Bool) → cond a (refused_at TextSize None) (suits w (coming_of text)) ≡ Ok tt → (w : ℕ) × IsTarget target size w × Faultless w (lines_of text) (length (lines_of text))
+      by true k = cc
+      by false k = (w, width-target target size w b, suits-accepted w text k)
+
   refused_for : (x : Refusal) (o : Option ℕ) → bytes_per_address target size ≡ o → verdict_for text o ≡ Err x → Refuses text target size x
-  refused_for x None b e = inl (MatchOption-at_none _ (IsTarget target size) b (width_of target size), sym (err_same e))
+  refused_for x None b e = inl (λ w k. let t = sym b ∙ target-width target size w k in (cc), cc)
   refused_for x (Some w) b e = by (ltb 4194304 (length text)) refl e
     where
-      by : (a : Bool) → ltb 4194304 (length text) ≡ a → cond a (refused_at TextSize 0) (suits w (coming_of text)) ≡ Err x → Refuses text target size x
-      by true q k = inr (w, MatchOption-at_some _ (IsTarget target size) w b (width_of target size), inl (ltb-true 4194304 (length text) q, sym (err_same k)))
-      by false q k = inr (w, MatchOption-at_some _ (IsTarget target size) w b (width_of target size), inr (ltb-false 4194304 (length text) q, suits-refused w text x k))
+      by : (a : Bool) → ltb 4194304 (length text) ≡ a → cond a (refused_at TextSize None) (suits w (coming_of text)) ≡ Err x → Refuses text target size x
+      by true q k = inr (w, width-target target size w b, inl (ltb-true 4194304 (length text) q, cc))
+      by false q k = inr (w, width-target target size w b, inr (ltb-false 4194304 (length text) q, suits-refused w text x k))
 
   pub verdict_judges : Judges text target size (verdict text target size)
   verdict_judges = record {
     accepted = λ e. accepted_for (bytes_per_address target size) refl e;
     accepts = accepts_for;
+    faultless = λ e. faultless_for (bytes_per_address target size) refl e;
     refused = λ x e. refused_for x (bytes_per_address target size) refl e;
   }
+
+-- the law holds of what is the verdict
+pub judged : (text : List ℕ) (target size : ℕ) (r : Result (Unit {0}) Refusal) → r ≡ verdict text target size → Judges text target size r
+judged text target size r e = subst (Judges text target size) (sym e) (verdict_judges text target size)

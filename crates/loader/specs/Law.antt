@@ -159,23 +159,24 @@ pub record NoDataLine (w : ℕ) (ls : List (List ℕ)) : Type 0 where
 -- where no line has a fault and there is no end line, or no data
 abbrev pub NamesFirst : ℕ → List (List ℕ) → Refusal → Type 0
 NamesFirst w ls x =
-    ((n : ℕ) × LineFault w ls x.reason n × (x.line ≡ n + 1))
-    ⊎ ((NoEndLine w ls × (x ≡ record { reason = why.File NoEnd; line = 0 }))
-    ⊎ (NoDataLine w ls × (x ≡ record { reason = why.NoData; line = 0 })))
+    ((n : ℕ) × LineFault w ls x.reason n × (x.line ≡ Some (n + 1)))
+    ⊎ ((NoEndLine w ls × (x ≡ record { reason = why.File NoEnd; line = None }))
+    ⊎ (NoDataLine w ls × (x ≡ record { reason = why.NoData; line = None })))
 
 -- ---- the verdict
 
 -- what a refusal says of a text for a target of a size
 abbrev pub Refuses : List ℕ → ℕ → ℕ → Refusal → Type 0
 Refuses text target size x =
-    (((w : ℕ) → IsTarget target size w → ⊥) × (x ≡ record { reason = why.Target; line = 0 }))
+    (((w : ℕ) → IsTarget target size w → ⊥) × (x ≡ record { reason = why.Target; line = None }))
     ⊎ ((w : ℕ) × IsTarget target size w
-    × (((4194304 < length text) × (x ≡ record { reason = why.TextSize; line = 0 }))
+    × (((4194304 < length text) × (x ≡ record { reason = why.TextSize; line = None }))
     ⊎ ((length text ≤ 4194304) × NamesFirst w (lines_of text) x)))
 
 -- a verdict accepts a text exactly when it writes a file that suits the target, whose records are
--- then handed out, and a refusal names the first fault
+-- then handed out; no line of a text that is accepted has a fault; and a refusal names the first fault
 pub record Judges (text : List ℕ) (target size : ℕ) (r : Result (Unit {0}) Refusal) : Type 0 where
   pub accepted : r ≡ Ok tt → (w : ℕ) × IsTarget target size w × (length text ≤ 4194304) × ((f : File) × Holds w text f)
   pub accepts : (w : ℕ) (f : File) → IsTarget target size w → length text ≤ 4194304 → WritesFile f text → Suits w f.records → (r ≡ Ok tt) × HandsFile (coming_of text).records f
+  pub faultless : r ≡ Ok tt → (w : ℕ) × IsTarget target size w × Faultless w (lines_of text) (length (lines_of text))
   pub refused : (x : Refusal) → r ≡ Err x → Refuses text target size x

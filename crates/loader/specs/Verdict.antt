@@ -22,9 +22,17 @@ abbrev pub outcome_of : Result (Unit {0}) Refusal → ℕ
 outcome_of (Ok u) = 0
 outcome_of (Err x) = outcome_number x.reason
 
--- a refusal for this reason on this line
-abbrev pub refused_at : Reason → ℕ → Result (Unit {0}) Refusal
-refused_at reason line = Err (record { reason = reason; line = line })
+-- a refusal for this reason on this line, or on none
+abbrev pub refusal_at : Reason → Option ℕ → Refusal
+refusal_at reason line = record { reason = reason; line = line }
+
+-- the refusal for a fault of the text
+abbrev pub refusal_for : FaultAt → Refusal
+refusal_for at = refusal_at (File at.fault) at.line
+
+-- the verdict that refuses so
+abbrev pub refused_at : Reason → Option ℕ → Result (Unit {0}) Refusal
+refused_at reason line = Err (refusal_at reason line)
 
 -- how many bytes a record has
 abbrev pub byte_count : Handed → ℕ
@@ -41,13 +49,13 @@ end_after w e r =
 -- what follows from the check of a record on a line
 abbrev pub goes_on : (ℕ → Result (Unit {0}) Refusal) → ℕ → Result ℕ Reason → Result (Unit {0}) Refusal
 goes_on go line (Ok e) = go e
-goes_on go line (Err reason) = refused_at reason line
+goes_on go line (Err reason) = refused_at reason (Some line)
 
 -- what is said once all records have passed: the fault at which the file stopped, or that no record
 -- had data
 abbrev pub at_last : Bool → Option FaultAt → Result (Unit {0}) Refusal
-at_last any (Some f) = refused_at (File f.fault) f.line
-at_last any None = cond any (Ok tt) (refused_at NoData 0)
+at_last any (Some f) = Err (refusal_for f)
+at_last any None = cond any (Ok tt) (refused_at NoData None)
 
 -- whether records suit a target with w bytes an address, after records that end at e, any of which
 -- had data; records without data are passed over
@@ -63,8 +71,8 @@ suits w c = suits_from w 0 false c.records c.fault
 
 -- the verdict for a target with so many bytes an address, if there is one
 abbrev pub verdict_for : List ℕ → Option ℕ → Result (Unit {0}) Refusal
-verdict_for text None = refused_at Target 0
-verdict_for text (Some w) = cond (nat_lt 4194304 (length text)) (refused_at TextSize 0) (suits w (coming_of text))
+verdict_for text None = refused_at Target None
+verdict_for text (Some w) = cond (nat_lt 4194304 (length text)) (refused_at TextSize None) (suits w (coming_of text))
 
 -- the verdict on a text for a target of a size: the target is looked at first, then how long the
 -- text is, then the lines in their order

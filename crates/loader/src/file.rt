@@ -1,17 +1,15 @@
 // The file check: whether the loader would take a file for a target.
-ghost use Rattle.std.specs.Prelude.{◌≡◌, ◌<◌};
+ghost use Rattle.std.specs.Prelude.{◌≡◌, ◌<◌, None};
 ghost use Rattle.srecord.specs.Reading.{coming_of, handed_by};
 ghost use Rattle.loader.specs.Law.{Judges};
-ghost use Rattle.loader.specs.Target.{bytes_per_address};
-ghost use Rattle.loader.specs.Verdict.{outcome_number, end_after, suits, verdict};
+ghost use Rattle.loader.specs.Target.{number_of, size_of};
+ghost use Rattle.loader.specs.Verdict.{outcome_number, outcome_of, refusal_at, refusal_for, end_after, suits, verdict};
 
-use srecord::{Fault, Reader, Record};
+use crate::Target;
+use srecord::{Fault, FaultAt, Reader, Record};
 
 // The longest text that is taken, in bytes.
 pub const MAX_TEXT: usize = 4_194_304;
-
-// The largest EEPROM, in bytes.
-const MAX_SIZE: u64 = 1_048_576;
 
 // Why a file is refused.
 #[derive(Clone, Copy, PartialEq, Eq, Debug)]
@@ -24,15 +22,35 @@ pub enum Reason {
     NoData,
 }
 
-// Why a file is refused, and the line at fault, from 1; 0 where no line is.
+// Why a file is refused, and the line at fault, from 1; none where no line is.
 #[derive(Clone, Copy, PartialEq, Eq, Debug)]
 pub struct Refusal {
     pub reason: Reason,
-    pub line: usize,
+    pub line: Option<usize>,
+}
+
+// A reason for which no line is at fault.
+impl From<Reason> for Refusal {
+    ghost from_gives = { λ reason r. r ≡ refusal_at reason None };
+
+    fn from(reason: Reason) -> Refusal {
+        Refusal { reason, line: None }
+    }
+}
+
+impl From<FaultAt> for Refusal {
+    ghost from_gives = { λ at r. r ≡ refusal_for at };
+
+    fn from(at: FaultAt) -> Refusal {
+        Refusal {
+            reason: Reason::File(at.fault),
+            line: at.line,
+        }
+    }
 }
 
 impl Reason {
-    // The number by which the outcome is reported.
+    // The number by which the outcome is reported; a `u8::from` would not say which number it gives.
     pub fn number(self) -> u8
         ensures { result ≡ outcome_number self }
     {
@@ -47,49 +65,36 @@ impl Reason {
     }
 }
 
-// Whether the loader would take the text for a target: 0 is flash, 2 and 3 are the EEPROMs of the
-// bootloader and of the data, of the size told.
-pub fn check_file(text: &[u8], target: u8, size: u64) -> Result<(), Refusal>
-    ensures answer { result ≡ verdict text.now target size }
-    ensures law { Judges text.now target size result }
+// The number of the outcome of a check, 0 where the text is accepted.
+pub fn outcome(checked: Result<(), Refusal>) -> u8
+    ensures { result ≡ outcome_of checked }
 {
-    check_text(text, target, size)
+    checked.err().map_or(0, |refusal| refusal.reason.number())
 }
 
-// The target first, then how long the text is, then its records.
-fn check_text(text: &[u8], target: u8, size: u64) -> Result<(), Refusal>
-    ensures { result ≡ verdict text.now target size }
+// Whether the loader would take the text for a target: the target is looked at first, then how long the
+// text is, then its records.
+#[tactic(auto, using(crate::proofs::Judging::judged))]
+pub fn check_for(text: &[u8], target: Target) -> Result<(), Refusal>
+    ensures answer { result ≡ verdict text.now (number_of target) (size_of target) }
+    ensures law { Judges text.now (number_of target) (size_of target) result }
 {
-    let Some(width) = bytes_per_address(target, size) else {
-        return Err(Refusal {
-            reason: Reason::Target,
-            line: 0,
-        });
-    };
+    let width = target.bytes_per_address().ok_or(Reason::Target)?;
     if text.len() > MAX_TEXT {
-        return Err(Refusal {
-            reason: Reason::TextSize,
-            line: 0,
-        });
+        return Err(Refusal::from(Reason::TextSize));
     }
     check_records(text, width)
 }
 
-// How many bytes an address of the target stands for; none where there is no such target.
-fn bytes_per_address(target: u8, size: u64) -> Option<usize>
-    ensures { result ≡ bytes_per_address target size }
+// The same for callers in C, who tell the target by its number: 0 is flash, 2 and 3 are the EEPROMs of the
+// bootloader and of the data, of the size told.
+#[tactic(auto, using(crate::proofs::Judging::judged, crate::proofs::Judging::width_by_number))]
+pub fn check_file(text: &[u8], target: u8, size: u64) -> Result<(), Refusal>
+    ensures answer { result ≡ verdict text.now target size }
+    ensures law { Judges text.now target size result }
 {
-    match target {
-        0 => Some(2),
-        2 | 3 => {
-            if size >= 1 && size <= MAX_SIZE {
-                Some(1)
-            } else {
-                None
-            }
-        }
-        _ => None,
-    }
+    let target = Target::of(target, size).ok_or(Reason::Target)?;
+    check_for(text, target)
 }
 
 // Whether the records of a text suit a target with so many bytes an address.
@@ -97,40 +102,20 @@ fn check_records(text: &[u8], width: usize) -> Result<(), Refusal>
     requires { 0 < width }
     ensures { result ≡ suits width (coming_of text.now) }
 {
-    let mut reader = Reader::new(text);
-    let mut end = 0;
-    let mut any = false;
-    loop {
-        let next = match reader.next_record() {
-            Ok(next) => next,
-            Err(at) => return Err(Refusal {
-                reason: Reason::File(at.fault),
-                line: at.line,
-            }),
-        };
-        let Some(record) = next else {
-            break;
-        };
+    let mut end = None;
+    for record in Reader::new(text).records() {
+        let record = record?;
         if record.byte_count() == 0 {
             continue;
         }
-        match end_after(record, width, end) {
-            Ok(past) => end = past,
-            Err(reason) => return Err(Refusal {
-                reason,
-                line: record.line,
-            }),
-        }
-        any = true;
+        let past = end_after(record, width, end.unwrap_or(0)).map_err(|reason| Refusal {
+            reason,
+            line: Some(record.line),
+        })?;
+        end = Some(past);
     }
-    if any {
-        Ok(())
-    } else {
-        Err(Refusal {
-            reason: Reason::NoData,
-            line: 0,
-        })
-    }
+    end.ok_or(Reason::NoData)?;
+    Ok(())
 }
 
 // Where a record with data ends that comes after records up to `end`.
@@ -142,9 +127,10 @@ fn end_after(record: Record<'_>, width: usize, end: u64) -> Result<u64, Reason>
     if bytes % width != 0 {
         return Err(Reason::NotWhole);
     }
-    let start = record.address as u64;
+    let start = u64::from(record.address);
     if start < end {
         return Err(Reason::NotRising);
     }
+    // No `From` takes a usize to a u64.
     Ok(start + (bytes / width) as u64)
 }

@@ -1,5 +1,5 @@
 // The file check at the edges of each outcome.
-use crate::{MAX_TEXT, Refusal, check_file};
+use crate::{MAX_TEXT, Refusal, check_file, outcome};
 use std::alloc::{AllocError, Global};
 use std::test::Fail;
 
@@ -15,10 +15,8 @@ struct Case {
 
 // The outcome and the line of a verdict.
 fn reported(verdict: Result<(), Refusal>) -> (u8, usize) {
-    match verdict {
-        Ok(()) => (0, 0),
-        Err(refusal) => (refusal.reason.number(), refusal.line),
-    }
+    let line = verdict.err().and_then(|refusal| refusal.line);
+    (outcome(verdict), line.unwrap_or(0))
 }
 
 #[test]

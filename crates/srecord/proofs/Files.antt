@@ -21,7 +21,8 @@ use Rattle.srecord.specs.Line.{Content, form_of, header, record_at, count_is, en
 use Rattle.srecord.specs.Reading.{pass, at_end, Coming, Handed, stopped, step_of, step_to, leads_to, coming_from, coming_of}
 use Rattle.srecord.specs.Text.{lines_of}
 use Rattle.srecord.proofs.Arrivals.{coming_step, coming_fault, coming_handed, coming-nil}
-use Rattle.srecord.proofs.Pairs.{none-some, length-bytes, decoded-short}
+use Rattle.std.proofs.lemmas.Option.{none-some}
+use Rattle.srecord.proofs.Pairs.{length-bytes, decoded-short}
 use Rattle.srecord.proofs.Splitting.{EachLine, Lines, text_lines, lines_text}
 use Rattle.srecord.proofs.Writing.{type-form, line_reads, reads-line}
 

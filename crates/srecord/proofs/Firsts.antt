@@ -1,12 +1,10 @@
 -- The first line of a text is the one that its count measures, unless it has a fault of shape.
 -- Assumes nothing.
-use Rattle.std.proofs.Common.{◌≡◌, ℕ, ◌+◌, ◌*◌, ◌<◌, ◌≤◌, List, [], ◌∷◌, length, get_or, take, drop, Some, None, Ok, Err, Option, sym, refl, ap, ◌∙◌, subst, inl, inr, arith, Bor}
-use Rattle.std.specs.Option.{option_map}
-use Rattle.std.proofs.lemmas.List.{length-append, length-take-le, get_or_past, take_at, drop_at, take-append-drop}
+use Rattle.std.proofs.Common.{◌≡◌, ℕ, ◌<◌, ◌≤◌, List, [], ◌∷◌, length, take, drop, Some, Ok, Err, sym, ap, ◌∙◌, subst, inl, inr, arith, Bor}
+use Rattle.std.proofs.lemmas.List.{length-append, take_at, drop_at}
 use Rattle.srecord.specs.declared.line.Fault.{Fault}
 use Rattle.srecord.specs.declared.line.Fault.TheVariants.{Shape}
 use Rattle.srecord.specs.declared.line.Line.{Line}
-use Rattle.srecord.specs.Hex.{digit_value, byte_from, pair_value}
 use Rattle.srecord.specs.Line.{line_of, content_of}
 use Rattle.srecord.specs.Text.{lines_of, EndsBefore, measured_length, Measured, ReadsFirst}
 use Rattle.srecord.proofs.Shapes.{Shaped, Judged, shaped, ok_shaped, shaped_first, shaped_long}
@@ -22,36 +20,16 @@ shaped_some : (l : List ℕ) → Shaped l → 0 < length l
 shaped_some [] p = absurd p
 shaped_some (s ∷ l) p = omega arith
 
--- a text of fewer than four characters has no count
-pub short-unmeasured : (text : List ℕ) → length text < 4 → measured_length text ≡ None
-short-unmeasured text h =
-    ap (option_map (λ n. 4 + 2 * n))
-    (ap (pair_value (get_or text 2 0)) (get_or_past text 3 0 (omega arith)) ∙ no_low (digit_value (get_or text 2 0)))
-  where
-    no_low : (o : Option ℕ) → byte_from o None ≡ None
-    no_low None = refl
-    no_low (Some h) = refl
-
-module _ (text : List ℕ) (n : ℕ) (e : measured_length text ≡ Some n) where
-  -- the line that the count measures is the text up to there
-  pub measured_at : (l r : List ℕ) → Measured text l r → (l ≡ take n text) × (n ≤ length text) × EndsBefore (drop n text) r
-  measured_at l r m =
-      let known = m.long in
-      let long : length l ≡ n = cc in
-      let whole = ap length m.whole ∙ length-append l m.tail in (
-        sym (ap (take n) m.whole ∙ take_at l m.tail n long),
-        omega arith,
-        subst (λ t. EndsBefore t r) (sym (ap (drop n) m.whole ∙ drop_at l m.tail n long)) m.ends,
-      )
-
-  -- and the other way round
-  pub measured_from : (r : List ℕ) → n ≤ length text → EndsBefore (drop n text) r → Measured text (take n text) r
-  measured_from r h ends = record {
-    tail = drop n text;
-    whole = sym (take-append-drop n text);
-    long = e ∙ ap Some (sym (length-take-le n text h));
-    ends = ends;
-  }
+-- the line that the count measures is the text up to there
+pub measured_at : (text : List ℕ) (n : ℕ) → measured_length text ≡ Some n → (l r : List ℕ) → Measured text l r → (l ≡ take n text) × (n ≤ length text) × EndsBefore (drop n text) r
+measured_at text n e l r m =
+    let known = m.long in
+    let long : length l ≡ n = cc in
+    let whole = ap length m.whole ∙ length-append l m.tail in (
+      sym (ap (take n) m.whole ∙ take_at l m.tail n long),
+      omega arith,
+      subst (λ t. EndsBefore t r) (sym (ap (drop n) m.whole ∙ drop_at l m.tail n long)) m.ends,
+    )
 
 -- a line that the count measures is the first where it has no fault of shape
 measured_first : (text l r : List ℕ) → Measured text l r → Shaped l → lines_of text ≡ l ∷ lines_of r

@@ -1,7 +1,8 @@
 pub mod Pairs
-pub mod Lines
+pub mod Passing
 pub mod Texts
 pub mod Shapes
+pub mod Lines
 pub mod Firsts
 pub mod Arrivals
 pub mod Writing

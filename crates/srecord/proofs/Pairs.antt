@@ -1,51 +1,86 @@
 -- Laws of the bytes that a row of pairs spells. Assumes nothing.
-use Rattle.std.proofs.Common.{◌≡◌, ℕ, zero, suc, ◌+◌, ◌-◌, ◌*◌, ◌%◌, ◌^◌, ◌<◌, ◌≤◌, Bool, true, false, cond, leb, List, [], ◌∷◌, ◌++◌, length, get_or, take, drop, Some, None, fold, sum, Option, sym, refl, ap, ◌∙◌, subst, append_assoc, append-nil, arith}
+use Rattle.std.proofs.Common.{◌≡◌, ℕ, zero, suc, ◌+◌, ◌*◌, ◌/◌, ◌%◌, ◌^◌, ◌<◌, ◌≤◌, List, [], ◌∷◌, ◌++◌, length, get_or, take, drop, Some, None, fold, sum, Option, sym, refl, ap, ◌∙◌, subst, append_assoc, append-nil, arith}
 use native.Mathlib.Nat.{mod-add-mod}
 use Rattle.std.specs.Option.{option_map}
 use Rattle.std.specs.List.{AllByRecursion}
-use Rattle.std.proofs.lemmas.List.{take_rest, take_all, drop_all}
+use Rattle.std.proofs.lemmas.List.{at_drop_more, at_drop_all, take_all, drop_all}
+use Rattle.std.proofs.lemmas.Option.{none-some, cond_some}
+use Rattle.std.specs.Simd.{first_chunks}
 use Rattle.std.proofs.lemmas.List.Sums.{sum_by-cons}
-use Rattle.std.proofs.lemmas.Bool.{cond-true, le-leb}
+use Rattle.std.proofs.lemmas.Bool.{cond-true, eq-eqb, eqb-true}
+use Rattle.std.specs.Int.RustNames.{bit_or}
+use Rattle.std.proofs.lemmas.Grind.{or_after_shift}
 use Rattle.std.proofs.lemmas.Bool.Decides.{nat_tests}
 use Rattle.srecord.specs.Bytes.{decoded}
-use Rattle.srecord.specs.Hex.{digit_value, or_not_hex, byte_from, pair_value, in_front, bytes_of, number}
+use Rattle.srecord.specs.Hex.{digit_value, byte_from, pair_value, in_front, pairs_in, bytes_of, number}
 
--- a fold over the bytes of a row, begun at s; none where the row is no pairs
-abbrev pub fold_pairs : {S : Type 0} → (S → ℕ → S) → S → List ℕ → Option S
-fold_pairs f s cs = option_map (fold f s) (bytes_of cs)
+-- the bytes that pairs of digits spell; none where a character is no digit
+abbrev pub spelled_by : List (List ℕ) → Option (List ℕ)
+spelled_by [] = Some []
+spelled_by (p ∷ ps) = in_front (pair_value (get_or p 0 0) (get_or p 1 0)) (spelled_by ps)
 
--- the rest of a row behind its first two digits, as a slice pattern leaves it
-abbrev pub tail_of2 : List ℕ → List ℕ
-tail_of2 cs = take (length cs - 2) (drop 2 cs)
+-- pairs that a row is cut into: they spell what it spells
+pub record PairsOf (cs : List ℕ) (ps : List (List ℕ)) : Type 0 where
+  pub spells : spelled_by ps ≡ bytes_of cs
+  pub long : length cs ≡ 2 * length ps
 
-module _ {S : Type 0} (f : S → ℕ → S) (s : S) where
+chunks : (cs : List ℕ) → length cs % 2 ≡ 0 → PairsOf cs (first_chunks 2 (length cs / 2) cs)
+unfolding bytes_of
+chunks [] h = record { spells = refl; long = refl }
+chunks (x ∷ []) h = absurd (omega arith)
+chunks (x ∷ y ∷ cs) h =
+    let half : length (x ∷ y ∷ cs) / 2 ≡ suc (length cs / 2) = omega arith in
+    let more = chunks cs (omega arith) in
+    subst (λ n. PairsOf (x ∷ y ∷ cs) (first_chunks 2 n (x ∷ y ∷ cs))) (sym half)
+    (record { spells = ap (in_front (pair_value x y)) more.spells; long = let k = more.long in omega arith })
+
+in_front-none : (o : Option ℕ) → in_front o None ≡ None
+in_front-none None = refl
+in_front-none (Some b) = refl
+
+odd-spelled : (cs : List ℕ) → (length cs % 2 ≡ 0 → ⊥) → bytes_of cs ≡ None
+unfolding bytes_of
+odd-spelled [] h = absurd (h refl)
+odd-spelled (x ∷ []) h = refl
+odd-spelled (x ∷ y ∷ cs) h = ap (in_front (pair_value x y)) (odd-spelled cs (λ e. h (omega arith))) ∙ in_front-none (pair_value x y)
+
+-- what a row spells, by its pairs
+pub pairs_some : (cs : List ℕ) (ps : List (List ℕ)) → Some ps ≡ pairs_in cs → PairsOf cs ps
+pairs_some cs ps e =
+    let q = cond_some _ _ _ (sym e) in
+    subst (PairsOf cs) q.1 (chunks cs (eqb-true _ 0 q.0))
+
+pub pairs_none : (cs : List ℕ) → None ≡ pairs_in cs → bytes_of cs ≡ None
+pairs_none cs e = odd-spelled cs (λ h. none-some _ (e ∙ cond-true _ _ _ (eq-eqb _ 0 h)))
+
+-- a fold over the bytes of pairs, begun at s; none where they spell none
+abbrev pub fold_pairs : {S : Type 0} → (S → ℕ → S) → S → List (List ℕ) → Option S
+fold_pairs f s ps = option_map (fold f s) (spelled_by ps)
+
+module _ {S : Type 0} (f : S → ℕ → S) (s : S) (ps : List (List ℕ)) (i : ℕ) where
   in_front_lem : (o : Option ℕ) (b : ℕ) (r : Option (List ℕ)) → o ≡ Some b → option_map (fold f (f s b)) r ≡ option_map (fold f s) (in_front o r)
   in_front_lem o b None e = ap (λ x. option_map (fold f s) (in_front x None)) (sym e)
   in_front_lem o b (Some bs) e = ap (λ x. option_map (fold f s) (in_front x (Some bs))) (sym e)
 
-  pub fold_more : (cs : List ℕ) (b : ℕ) → 2 ≤ length cs → pair_value (get_or cs 0 0) (get_or cs 1 0) ≡ Some b → fold_pairs f (f s b) (tail_of2 cs) ≡ fold_pairs f s cs
-  unfolding bytes_of
-  fold_more [] b h e = absurd (omega arith)
-  fold_more (x ∷ []) b h e = absurd (omega arith)
-  fold_more (x ∷ y ∷ cs) b h e =
-      ap (λ l. option_map (fold f (f s b)) (bytes_of l)) (take_rest (x ∷ y ∷ cs) 2) ∙ in_front_lem (pair_value x y) b (bytes_of cs) e
+  -- one pair more
+  pub fold_more : (d : List ℕ) (b : ℕ) (t : S) → i < length ps → Some b ≡ pair_value (get_or (get_or ps i d) 0 0) (get_or (get_or ps i d) 1 0) → t ≡ f s b → fold_pairs f t (drop (i + 1) ps) ≡ fold_pairs f s (drop i ps)
+  fold_more d b t h e k =
+      ap (λ u. fold_pairs f u (drop (i + 1) ps)) k ∙ in_front_lem _ b (spelled_by (drop (i + 1) ps)) (sym e)
+      ∙ sym (at_drop_more (fold_pairs f s) ps i d h)
 
-  pub fold_none : (cs : List ℕ) → 2 ≤ length cs → pair_value (get_or cs 0 0) (get_or cs 1 0) ≡ None → fold_pairs f s cs ≡ None
-  unfolding bytes_of
-  fold_none [] h e = absurd (omega arith)
-  fold_none (x ∷ []) h e = absurd (omega arith)
-  fold_none (x ∷ y ∷ cs) h e = ap (λ o. option_map (fold f s) (in_front o (bytes_of cs))) e
+  pub fold_none : (d : List ℕ) → i < length ps → None ≡ pair_value (get_or (get_or ps i d) 0 0) (get_or (get_or ps i d) 1 0) → fold_pairs f s (drop i ps) ≡ None
+  fold_none d h e = at_drop_more (fold_pairs f s) ps i d h ∙ ap (λ o. option_map (fold f s) (in_front o (spelled_by (drop (i + 1) ps)))) (sym e)
 
-  pub fold_end : (cs : List ℕ) → length cs ≡ 0 → fold_pairs f s cs ≡ Some s
-  unfolding bytes_of
-  fold_end [] h = refl
-  fold_end (x ∷ cs) h = absurd (omega arith)
+  pub fold_end : length ps ≤ i → fold_pairs f s (drop i ps) ≡ Some s
+  fold_end h = at_drop_all (fold_pairs f s) ps i h
 
-  pub fold_odd : (cs : List ℕ) → length cs < 2 → (length cs ≡ 0 → ⊥) → fold_pairs f s cs ≡ None
-  unfolding bytes_of
-  fold_odd [] h n = absurd (n refl)
-  fold_odd (x ∷ []) h n = refl
-  fold_odd (x ∷ y ∷ cs) h n = absurd (omega arith)
+-- the fold over the bytes of a row, by its pairs
+module _ {S : Type 0} (f : S → ℕ → S) (s : S) (cs : List ℕ) where
+  pub fold_paired : (ps : List (List ℕ)) → Some ps ≡ pairs_in cs → fold_pairs f s ps ≡ option_map (fold f s) (bytes_of cs)
+  fold_paired ps e = ap (option_map (fold f s)) (pairs_some cs ps e).spells
+
+  pub fold_unpaired : None ≡ pairs_in cs → None ≡ option_map (fold f s) (bytes_of cs)
+  fold_unpaired e = sym (ap (option_map (fold f s)) (pairs_none cs e))
 
 -- the step of a sum of which only the low byte is kept
 abbrev pub add_low : ℕ → ℕ → ℕ
@@ -58,7 +93,7 @@ folded_add_low t (b ∷ bs) h =
     ∙ ap (λ n. n % 256) (let e = sum_by-cons (λ x. x) b bs in omega arith)
 
 -- the low byte of a sum is the same whether it is cut at each step or at the end
-pub fold-add_low : (cs : List ℕ) → fold_pairs add_low 0 cs ≡ option_map (λ bs. sum bs % 256) (bytes_of cs)
+pub fold-add_low : (cs : List ℕ) → option_map (fold add_low 0) (bytes_of cs) ≡ option_map (λ bs. sum bs % 256) (bytes_of cs)
 fold-add_low cs = go (bytes_of cs)
   where
     go : (o : Option (List ℕ)) → option_map (fold add_low 0) o ≡ option_map (λ bs. sum bs % 256) o
@@ -73,19 +108,8 @@ mapped_below n (Some v) = v < n
 pub digit-small : (c : ℕ) → mapped_below 16 (digit_value c)
 digit-small c = grind (arith, nat_tests)
 
-pub code_small : (c : ℕ) → or_not_hex (digit_value c) ≤ 256
-code_small c = grind (arith, nat_tests)
-
 pub pair_small : (x y : ℕ) → mapped_below 256 (pair_value x y)
-pair_small x y = go (digit_value x) (digit_value y) (digit-small x) (digit-small y)
-  where
-    go : (a b : Option ℕ) → mapped_below 16 a → mapped_below 16 b → mapped_below 256 (byte_from a b)
-    go None b h k = tt
-    go (Some a) None h k = tt
-    go (Some a) (Some b) h k = omega arith
-
-pub none-some : {X : Type 0} (x : X) → None ≡ Some x → ⊥
-none-some x e = let z : ◌≡◌ {A = ℕ} 0 1 = cc in omega arith
+pair_small x y = grind (arith, nat_tests)
 
 -- the digits of a byte
 pub byte_from-some : (a b : Option ℕ) (v : ℕ) → byte_from a b ≡ Some v → (h : ℕ) × (l : ℕ) × (a ≡ Some h) × (b ≡ Some l) × (v ≡ h * 16 + l)
@@ -159,18 +183,33 @@ bytes_take (suc k) (x ∷ y ∷ cs) bs e =
 
 -- the step of a number of up to four bytes in a u32
 abbrev pub add_wide : ℕ → ℕ → ℕ
-add_wide v b = ((v * 256) % 2 ^ 32 + b) % 2 ^ 32
+add_wide v b = bit_or ((v * 256) % 2 ^ 32) b
+
+-- it is that of the number of a list where no bit is lost
+wide_more : (v b : ℕ) (bs : List ℕ) → v < 2 ^ 24 → b < 256 → fold add_wide (v * 256 + b) bs ≡ fold (λ v b. v * 256 + b) (v * 256 + b) bs → fold add_wide v (b ∷ bs) ≡ fold (λ v b. v * 256 + b) v (b ∷ bs)
+wide_more v b bs h k more = ap (λ w. fold add_wide w bs) (or_after_shift v 256 (2 ^ 32) b refl k (omega arith)) ∙ more
 
 wide : (bs : List ℕ) → length bs ≤ 4 → AllByRecursion (λ b. b < 256) bs → fold add_wide 0 bs ≡ number bs
 wide [] h s = refl
-wide (a ∷ []) h s = omega arith
-wide (a ∷ b ∷ []) h s = omega arith
-wide (a ∷ b ∷ c ∷ []) h s = omega arith
-wide (a ∷ b ∷ c ∷ d ∷ []) h s = omega arith
+wide (a ∷ []) h s = wide_more 0 a [] (omega arith) s.0 refl
+wide (a ∷ b ∷ []) h s = let x = s.0 in wide_more 0 a (b ∷ []) (omega arith) x (wide_more (0 * 256 + a) b [] (omega arith) s.1.0 refl)
+wide (a ∷ b ∷ c ∷ []) h s =
+    let x = s.0 in
+    let y = s.1.0 in
+    wide_more 0 a (b ∷ c ∷ []) (omega arith) x
+    (wide_more (0 * 256 + a) b (c ∷ []) (omega arith) y (wide_more ((0 * 256 + a) * 256 + b) c [] (omega arith) s.1.1.0 refl))
+wide (a ∷ b ∷ c ∷ d ∷ []) h s =
+    let x = s.0 in
+    let y = s.1.0 in
+    let z = s.1.1.0 in
+    wide_more 0 a (b ∷ c ∷ d ∷ []) (omega arith) x
+    (wide_more (0 * 256 + a) b (c ∷ d ∷ []) (omega arith) y
+    (wide_more ((0 * 256 + a) * 256 + b) c (d ∷ []) (omega arith) z
+    (wide_more (((0 * 256 + a) * 256 + b) * 256 + c) d [] (omega arith) s.1.1.1.0 refl)))
 wide (a ∷ b ∷ c ∷ d ∷ e ∷ bs) h s = absurd (omega arith)
 
 -- the number of up to four bytes is not cut
-pub fold-add_wide : (cs : List ℕ) → length cs ≤ 8 → fold_pairs add_wide 0 cs ≡ option_map number (bytes_of cs)
+pub fold-add_wide : (cs : List ℕ) → length cs ≤ 8 → option_map (fold add_wide 0) (bytes_of cs) ≡ option_map number (bytes_of cs)
 fold-add_wide cs h = go (bytes_of cs) refl
   where
     go : (o : Option (List ℕ)) → bytes_of cs ≡ o → option_map (fold add_wide 0) o ≡ option_map number o
@@ -185,7 +224,7 @@ folded_add_last : (bs cs : List ℕ) → fold add_last bs cs ≡ bs ++ cs
 folded_add_last bs [] = sym (append-nil bs)
 folded_add_last bs (c ∷ cs) = folded_add_last (bs ++ c ∷ []) cs ∙ append_assoc bs (c ∷ []) cs
 
-pub fold-add_last : (cs : List ℕ) → fold_pairs add_last [] cs ≡ bytes_of cs
+pub fold-add_last : (cs : List ℕ) → option_map (fold add_last []) (bytes_of cs) ≡ bytes_of cs
 fold-add_last cs = go (bytes_of cs)
   where
     go : (o : Option (List ℕ)) → option_map (fold add_last []) o ≡ o
@@ -194,12 +233,14 @@ fold-add_last cs = go (bytes_of cs)
 
 -- up to 252 pairs are decoded
 pub decoded-short : (ds : List ℕ) → length ds ≤ 504 → bytes_of ds ≡ decoded ds
-decoded-short ds h = sym (cond-true (leb (length ds) 504) (bytes_of ds) None (le-leb (length ds) 504 h))
+decoded-short ds h = grind (arith, nat_tests)
+
+pub decoded-long : (ds : List ℕ) → 504 < length ds → None ≡ decoded ds
+decoded-long ds h = grind (arith, nat_tests)
+
+pub decoded-unspelled : (ds : List ℕ) → bytes_of ds ≡ None → None ≡ decoded ds
+decoded-unspelled ds h = grind (arith, nat_tests)
 
 -- what is decoded is what the digits spell
 pub decoded-bytes : (ds bs : List ℕ) → decoded ds ≡ Some bs → bytes_of ds ≡ Some bs
-decoded-bytes ds bs e = by (leb (length ds) 504) e
-  where
-    by : (x : Bool) → cond x (bytes_of ds) None ≡ Some bs → bytes_of ds ≡ Some bs
-    by true e = e
-    by false e = absurd (none-some bs e)
+decoded-bytes ds bs e = grind (arith, nat_tests)

@@ -38,7 +38,7 @@ module _ (s t : ℕ) (ds : List ℕ) where
   line_mark : s ≡ 83 → line_of (s ∷ t ∷ ds) ≡ typed (form_of t) (s ∷ t ∷ ds) ds
   line_mark m = cond-true (eqb s 83) _ _ (eq-eqb s 83 m)
 
-  line_type : (f : Form) → s ≡ 83 → form_of t ≡ Some f → line_of (s ∷ t ∷ ds) ≡ spelled f (s ∷ t ∷ ds) (bytes_of ds)
+  pub line_type : (f : Form) → s ≡ 83 → form_of t ≡ Some f → line_of (s ∷ t ∷ ds) ≡ spelled f (s ∷ t ∷ ds) (bytes_of ds)
   line_type f m y = line_mark m ∙ ap (λ o. typed o (s ∷ t ∷ ds) ds) y
 
   line_bytes : (f : Form) (n : ℕ) (bs : List ℕ) → s ≡ 83 → form_of t ≡ Some f → bytes_of ds ≡ Some (n ∷ bs) → line_of (s ∷ t ∷ ds) ≡ line_from f (s ∷ t ∷ ds) n bs
@@ -77,7 +77,7 @@ shaped (s ∷ []) = inl refl
 shaped (s ∷ t ∷ ds) = by_mark s t ds (eqb s 83) refl
 
 pub err_ok : {f : Fault} {c : Content} → Err f ≡ Ok c → ⊥
-err_ok {f} {c} e = let z : ◌≡◌ {A = ℕ} 0 1 = cc in omega arith
+err_ok e = cc
 
 -- a line that is read has no fault of shape
 pub ok_shaped : (l : List ℕ) (c : Content) → line_of l ≡ Ok c → Shaped l

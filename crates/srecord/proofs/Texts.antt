@@ -1,9 +1,8 @@
 -- Laws of the lines of a text. Assumes nothing.
-use Rattle.std.proofs.Common.{◌≡◌, ℕ, ◌-◌, ◌<◌, ◌≤◌, Bool, true, false, ◌&&◌, eqb, List, [], ◌∷◌, ◌++◌, length, get_or, take, drop, sym, refl, ap, ◌∙◌, inl, inr, arith}
+use Rattle.std.proofs.Common.{◌≡◌, ℕ, ◌<◌, ◌≤◌, Bool, true, false, ◌&&◌, eqb, List, [], ◌∷◌, ◌++◌, length, sym, refl, ap, ◌∙◌, inl, inr, arith}
 use Rattle.std.specs.List.{AllByRecursion}
-use Rattle.std.proofs.lemmas.List.{take_rest}
-use Rattle.std.proofs.lemmas.Slice.{first_rest}
-use Rattle.std.proofs.lemmas.Bool.{eqb-true, ne_eqb, and_parts, and_left, and_right, cond-true, cond-false}
+use Rattle.std.proofs.lemmas.Bool.{eqb-true, and_parts}
+use Rattle.std.proofs.lemmas.Bool.Decides.{nat_tests}
 use Rattle.srecord.specs.Text.{starts_with_lf, on_first, lines_of, EndsBefore}
 
 pub lines_of-nil : lines_of [] ≡ []
@@ -17,9 +16,7 @@ Plain cs = AllByRecursion (λ c. 48 ≤ c) cs
 -- such a character goes in front of the first line
 plain_more : (b : ℕ) (text : List ℕ) → 48 ≤ b → lines_of (b ∷ text) ≡ on_first b (lines_of text)
 unfolding lines_of
-plain_more b text h =
-    cond-false (eqb b 10) _ _ (ne_eqb b 10 (λ e. omega arith))
-    ∙ cond-false (eqb b 13 && starts_with_lf text) _ _ (and_left (eqb b 13) _ (ne_eqb b 13 (λ e. omega arith)))
+plain_more b text h = grind (arith, nat_tests)
 
 -- or is a line by itself where an end follows
 plain_last : (b : ℕ) (tail rest : List ℕ) → EndsBefore tail rest → on_first b (lines_of tail) ≡ (b ∷ []) ∷ lines_of rest
@@ -51,7 +48,7 @@ cut_lf b text e = record {
   tail = 10 ∷ text;
   rest = text;
   whole = ap (λ (x : ℕ). x ∷ text) (eqb-true b 10 e);
-  lines = cond-true (eqb b 10) _ _ e;
+  lines = grind (arith, nat_tests);
   ends = inl refl;
 }
 
@@ -64,7 +61,7 @@ cut_crlf b c text n e =
       tail = 13 ∷ 10 ∷ text;
       rest = text;
       whole = (λ i. eqb-true b 13 p.0 i ∷ eqb-true c 10 p.1 i ∷ text);
-      lines = cond-false (eqb b 10) _ _ n ∙ cond-true (eqb b 13 && eqb c 10) _ _ e ∙ cond-true (eqb c 10) _ _ p.1;
+      lines = grind (arith, nat_tests);
       ends = inr (inl refl);
     }
 
@@ -75,7 +72,7 @@ cut_more b text n e c = record {
   tail = c.tail;
   rest = c.rest;
   whole = ap (λ (t : List ℕ). b ∷ t) c.whole;
-  lines = cond-false (eqb b 10) _ _ n ∙ cond-false (eqb b 13 && starts_with_lf text) _ _ e ∙ ap (on_first b) c.lines;
+  lines = grind (arith, nat_tests);
   ends = c.ends;
 }
 
@@ -86,7 +83,7 @@ cut_one b n = record {
   tail = [];
   rest = [];
   whole = refl;
-  lines = cond-false (eqb b 10) _ _ n ∙ cond-false (eqb b 13 && false) _ _ (and_right (eqb b 13) false refl);
+  lines = grind (arith, nat_tests);
   ends = inr (inr (refl, refl));
 }
 
@@ -103,12 +100,3 @@ cut b (c ∷ text) = by (cut c text) (eqb b 10) (eqb b 13 && eqb c 10) refl refl
     by more true y e h = cut_lf b (c ∷ text) e
     by more false true e h = cut_crlf b c text e h
     by more false false e h = cut_more b (c ∷ text) e h more
-
--- the end of a line, as a slice pattern finds it
-pub ends-lf : (text : List ℕ) → 1 ≤ length text → get_or text 0 0 ≡ 10 → EndsBefore text (take (length text - 1) (drop 1 text))
-ends-lf text some e = inl (first_rest text 0 some ∙ ap (λ (b : ℕ). b ∷ take (length text - 1) (drop 1 text)) e)
-
-pub ends-crlf : (text : List ℕ) → 2 ≤ length text → get_or text 0 0 ≡ 13 → get_or text 1 0 ≡ 10 → EndsBefore text (take (length text - 2) (drop 2 text))
-ends-crlf [] h d e = absurd (omega arith)
-ends-crlf (b ∷ []) h d e = absurd (omega arith)
-ends-crlf (b ∷ c ∷ text) h d e = inr (inl (let rest = sym (take_rest (b ∷ c ∷ text) 2) in (λ i. d i ∷ e i ∷ rest i)))

@@ -1,11 +1,11 @@
 -- A line is read exactly when it is written as lines are. Assumes nothing.
-use Rattle.std.proofs.Common.{◌≡◌, ℕ, suc, ◌+◌, ◌-◌, ◌*◌, ◌/◌, ◌%◌, ◌<◌, ◌≤◌, Bool, true, false, cond, ◌&&◌, ◌||◌, eqb, ltb, leb, List, [], ◌∷◌, ◌++◌, length, get_or, take, drop, IfSome, Some, None, Ok, Err, sum, Result, sym, refl, ap, ◌∙◌, subst, inl, inr, append_assoc, arith, MatchOption}
+use Rattle.std.proofs.Common.{◌≡◌, ℕ, suc, ◌+◌, ◌-◌, ◌*◌, ◌/◌, ◌%◌, ◌<◌, Bool, true, false, cond, List, [], ◌∷◌, ◌++◌, length, get_or, take, drop, IfSome, Some, Ok, Err, sum, sym, refl, ap, ◌∙◌, subst, inl, inr, append_assoc, arith}
 use Rattle.std.specs.List.{AllByRecursion}
 use Rattle.std.proofs.ByRecursion.{All-get_or, All-take}
 use Rattle.std.proofs.lemmas.List.{length-append, length_push, length-take-le, take_at, take_all, take_more, take-take, drop_at, drop-take, take-append-drop}
 use Rattle.std.proofs.lemmas.Option.{MatchOption-at_some}
 use Rattle.std.proofs.lemmas.List.Sums.{sum_by_push}
-use Rattle.std.proofs.lemmas.Bool.{true≢false, leb-true, and_parts, eq-eqb, eqb-true, lt-ltb, ltb-true, cond-true, and_from}
+use Rattle.std.proofs.lemmas.Bool.{eq-eqb, eqb-true, cond-true}
 use Rattle.std.proofs.lemmas.Bool.Decides.{nat_tests}
 use Rattle.srecord.specs.declared.line.Fault.{Fault}
 use Rattle.srecord.specs.declared.line.Fault.TheVariants.{Shape, Checksum}
@@ -26,16 +26,7 @@ digit_value_lem d c (inl h) = grind (arith, nat_tests)
 digit_value_lem d c (inr h) = grind (arith, nat_tests)
 
 value_digit : (c : ℕ) → IfSome (digit_value c) (λ d. Digit d c)
-value_digit c = go (leb 48 c && leb c 57) (leb 65 c && leb c 70) (leb 97 c && leb c 102) refl refl refl
-  where
-    between : (a b : ℕ) → (leb a c && leb c b) ≡ true → (a ≤ c) × (c ≤ b)
-    between a b h = let p = and_parts (leb a c) (leb c b) h in (leb-true a c p.0, leb-true c b p.1)
-
-    go : (x y z : Bool) → (leb 48 c && leb c 57) ≡ x → (leb 65 c && leb c 70) ≡ y → (leb 97 c && leb c 102) ≡ z → IfSome (cond x (Some (c - 48)) (cond y (Some (c - 65 + 10)) (cond z (Some (c - 97 + 10)) None))) (λ d. Digit d c)
-    go true y z p q r = let h = between 48 57 p in inl (omega arith, omega arith)
-    go false true z p q r = let h = between 65 70 q in inr (omega arith, omega arith, inl (omega arith))
-    go false false true p q r = let h = between 97 102 r in inr (omega arith, omega arith, inr (omega arith))
-    go false false false p q r = tt
+value_digit c = grind (arith, nat_tests)
 
 -- characters that write bytes spell them
 pub writes_bytes : (bs cs : List ℕ) → WritesBytes bs cs → bytes_of cs ≡ Some bs
@@ -68,46 +59,16 @@ bytes-writes (x ∷ y ∷ cs) bs e =
 
 -- ---- the types
 
-abbrev form_with : Kind → ℕ → Form
-form_with k w = record { kind = k; width = w }
-
-at : (k : Kind) {v w : ℕ} → w ≡ v → Some (form_with k v) ≡ Some (form_with k w)
-at k e = ap (λ (x : ℕ). Some (form_with k x)) (sym e)
-
 -- a type has the form that it is listed with
 pub type-form : (k : Kind) (w d : ℕ) → IsType k w d → form_of d ≡ Some (record { kind = k; width = w })
-type-form Header w d h = (λ i. form_of (h.0 i)) ∙ at Header h.1
-type-form Data w d (inl h) = (λ i. form_of (h.0 i)) ∙ at Data h.1
-type-form Data w d (inr (inl h)) = (λ i. form_of (h.0 i)) ∙ at Data h.1
-type-form Data w d (inr (inr h)) = (λ i. form_of (h.0 i)) ∙ at Data h.1
-type-form Count w d h = (λ i. form_of (h.0 i)) ∙ at Count h.1
-type-form End w d (inl h) = (λ i. form_of (h.0 i)) ∙ at End h.1
-type-form End w d (inr (inl h)) = (λ i. form_of (h.0 i)) ∙ at End h.1
-type-form End w d (inr (inr h)) = (λ i. form_of (h.0 i)) ∙ at End h.1
+type-form Header w d h = grind (arith, nat_tests)
+type-form Data w d h = grind (arith, nat_tests)
+type-form Count w d h = grind (arith, nat_tests)
+type-form End w d h = grind (arith, nat_tests)
 
 -- and the other way round
 form_type : (d : ℕ) → IfSome (form_of d) (λ f. IsType f.kind f.width d)
-form_type d = go (eqb d 48) (eqb d 49) (eqb d 50) (eqb d 51) (eqb d 53) (eqb d 55) (eqb d 56) (eqb d 57) refl refl refl refl refl refl refl refl
-  where
-    go : (a b c e f g h i : Bool)
-        → eqb d 48 ≡ a
-        → eqb d 49 ≡ b
-        → eqb d 50 ≡ c
-        → eqb d 51 ≡ e
-        → eqb d 53 ≡ f
-        → eqb d 55 ≡ g
-        → eqb d 56 ≡ h
-        → eqb d 57 ≡ i
-        → MatchOption {T = Form} (cond a (Some (form_with Header 2)) (cond b (Some (form_with Data 2)) (cond c (Some (form_with Data 3)) (cond e (Some (form_with Data 4)) (cond f (Some (form_with Count 2)) (cond g (Some (form_with End 4)) (cond h (Some (form_with End 3)) (cond i (Some (form_with End 2)) None)))))))) (Unit {0}) (λ f. IsType f.kind f.width d)
-    go true b c e f g h i p0 p1 p2 p3 p4 p5 p6 p7 = (eqb-true d 48 p0, refl)
-    go false true c e f g h i p0 p1 p2 p3 p4 p5 p6 p7 = inl (eqb-true d 49 p1, refl)
-    go false false true e f g h i p0 p1 p2 p3 p4 p5 p6 p7 = inr (inl (eqb-true d 50 p2, refl))
-    go false false false true f g h i p0 p1 p2 p3 p4 p5 p6 p7 = inr (inr (eqb-true d 51 p3, refl))
-    go false false false false true g h i p0 p1 p2 p3 p4 p5 p6 p7 = (eqb-true d 53 p4, refl)
-    go false false false false false true h i p0 p1 p2 p3 p4 p5 p6 p7 = inr (inr (eqb-true d 55 p5, refl))
-    go false false false false false false true i p0 p1 p2 p3 p4 p5 p6 p7 = inr (inl (eqb-true d 56 p6, refl))
-    go false false false false false false false true p0 p1 p2 p3 p4 p5 p6 p7 = inl (eqb-true d 57 p7, refl)
-    go false false false false false false false false p0 p1 p2 p3 p4 p5 p6 p7 = tt
+form_type d = grind (arith, nat_tests)
 
 -- what a kind may carry
 may_carry : (k : Kind) (bs : List ℕ) → (carries_data k ≡ false → bs ≡ []) → MayCarry k bs
@@ -117,8 +78,8 @@ may_carry Count bs h = h refl
 may_carry End bs h = h refl
 
 carries-none : (k : Kind) (bs : List ℕ) → MayCarry k bs → carries_data k ≡ false → bs ≡ []
-carries-none Header bs h e = absurd (true≢false e)
-carries-none Data bs h e = absurd (true≢false e)
+carries-none Header bs h e = cc
+carries-none Data bs h e = cc
 carries-none Count bs h e = h
 carries-none End bs h e = h
 
@@ -151,16 +112,8 @@ module _ (k : Kind) (e : Entry) (b : ℕ) (is : IsEntry k e) where
   fits =
       let long = body_long in
       let parts = length-append e.address e.bytes in
-      and_from (eqb (count_of e) (length body)) _ (eq-eqb (count_of e) (length body) (omega arith))
-      (and_from (ltb (length e.address) (length body)) _ (lt-ltb (length e.address) (length body) (omega arith)) (room (carries_data k) refl))
-    where
-      room : (t : Bool) → carries_data k ≡ t → (t || eqb (length body) (length e.address + 1)) ≡ true
-      room true h = refl
-      room false h =
-          let long = body_long in
-          let parts = length-append e.address e.bytes in
-          let none = ap length (carries-none k e.bytes is.carries h) in
-          eq-eqb (length body) (length e.address + 1) (omega arith)
+      let none = λ (h : carries_data k ≡ false). ap length (carries-none k e.bytes is.carries h) in
+      grind (arith, nat_tests)
 
   -- the data digits of such a line spell its data
   data_spelled : (s t : ℕ) (ds : List ℕ) → bytes_of ds ≡ Some (count_of e ∷ body) → bytes_of (data_digits formed (s ∷ t ∷ ds) (length body)) ≡ Some e.bytes
@@ -284,10 +237,7 @@ module _ (t : ℕ) (f : Form) (type : form_of t ≡ Some f) (n : ℕ) (bs : List
 
 -- what a count that fits says
 fits_parts : (f : Form) (n m : ℕ) → count_fits f n m ≡ true → (n ≡ m) × (f.width < m) × (carries_data f.kind ≡ false → m ≡ f.width + 1)
-fits_parts f n m h =
-    let p = and_parts (eqb n m) _ h in
-    let q = and_parts (ltb f.width m) _ p.1 in
-    (eqb-true n m p.0, ltb-true f.width m q.0, λ none. eqb-true m (f.width + 1) (sym (ap (λ b. b || eqb m (f.width + 1)) none) ∙ q.1))
+fits_parts f n m h = grind (arith, nat_tests)
 
 -- a line of this kind that is so written, with this byte for its checksum
 pub record Written (cs : List ℕ) : Type 0 where
@@ -333,34 +283,25 @@ line-written cs c e = by (sum_fits (count_of w.entry ∷ (body_of w.entry ++ w.b
     w = shaped_written cs (ok_shaped cs c e)
 
     by : (x : Bool) → sum_fits (count_of w.entry ∷ (body_of w.entry ++ w.byte ∷ [])) ≡ x → cond x (Ok (says w.kind (number w.entry.address) (written_reads cs w).0)) (Err Checksum) ≡ Ok c → (k : Kind) × (e : Entry) × IsEntry k e × WritesLine e cs
-    by false h e = absurd (err_ok e)
+    by false h e = absurd cc
     by true h e = (w.kind, w.entry, w.is, subst (λ (b : ℕ). WritesWith b w.entry cs) (sum-checksum w.entry w.byte w.small h) w.writes)
 
 -- ---- what reading a line means
-
-fault-same : {f g : Fault} → ◌≡◌ {A = Result Content Fault} (Err f) (Err g) → f ≡ g
-fault-same {f} {g} e = cc
-
-shape-checksum : Shape ≡ Checksum → ⊥
-shape-checksum e = let z : ◌≡◌ {A = ℕ} 0 1 = cc in omega arith
-
-ok_same : {c d : Content} → ◌≡◌ {A = Result Content Fault} (Ok c) (Ok d) → c ≡ d
-ok_same {c} {d} e = cc
 
 -- a line that is written but for its checksum has no fault but that of its checksum
 written_fault : (k : Kind) (e : Entry) (b : ℕ) (cs : List ℕ) → IsEntry k e → WritesWith b e cs → (f : Fault) → line_of cs ≡ Err f → f ≡ Checksum
 written_fault k e b cs is w f h = by (sum_fits (count_of e ∷ (body_of e ++ b ∷ []))) (sym (line_decides k e b is cs w).1 ∙ h)
   where
     by : (x : Bool) → cond x (Ok (says k (number e.address) (line_decides k e b is cs w).0)) (Err Checksum) ≡ Err f → f ≡ Checksum
-    by true h = absurd (err_ok (sym h))
-    by false h = sym (fault-same h)
+    by true h = cc
+    by false h = cc
 
 -- a line whose checksum is at fault is written but for it
 checksum-written : (cs : List ℕ) → line_of cs ≡ Err Checksum → (k : Kind) × (e : Entry) × (b : ℕ) × IsEntry k e × WritesWith b e cs × (b ≡ checksum_of e → ⊥)
 checksum-written cs h = by (shaped cs)
   where
     by : Judged cs → (k : Kind) × (e : Entry) × (b : ℕ) × IsEntry k e × WritesWith b e cs × (b ≡ checksum_of e → ⊥)
-    by (inl bad) = absurd (shape-checksum (fault-same (sym bad ∙ h)))
+    by (inl bad) = absurd cc
     by (inr p) =
         let w = shaped_written cs p in (
           w.kind,
@@ -376,7 +317,7 @@ shape-unwritten : (cs : List ℕ) (f : Fault) → line_of cs ≡ Err f → (f �
 shape-unwritten cs f h other = (by (shaped cs), λ k e b is w. other (written_fault k e b cs is w f h))
   where
     by : Judged cs → f ≡ Shape
-    by (inl bad) = sym (fault-same (sym bad ∙ h))
+    by (inl bad) = cc
     by (inr p) = let w = shaped_written cs p in absurd (other (written_fault w.kind w.entry w.byte cs w.is w.writes f h))
 
 pub reads-line : (cs : List ℕ) → ReadsLine cs (line_of cs)
@@ -384,7 +325,7 @@ reads-line cs = record {
   read = λ c e.
       let w = line-written cs c e in
       let r = line_reads w.0 w.1 w.2 cs w.3 in
-      (w.0, w.1, w.2, w.3, record { digits = r.0; tells = ok_same (sym e ∙ r.1); spells = r.2 });
+      (w.0, w.1, w.2, w.3, record { digits = r.0; tells = cc (e, r.1); spells = r.2 });
   reads = λ k e is w.
       let r = line_reads k e is cs w in
       (says k (number e.address) r.0, r.1, record { digits = r.0; tells = refl; spells = r.2 });

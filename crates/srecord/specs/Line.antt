@@ -1,5 +1,6 @@
 -- How one line is read.
-use Rattle.std.specs.Prelude.{ℕ, ◌+◌, ◌-◌, ◌*◌, ◌%◌, Bool, true, false, cond, ◌&&◌, ◌||◌, List, [], ◌∷◌, length, take, drop, Some, None, Ok, Err, sum, Option, Result, ◌==◌, nat_lt}
+use Rattle.std.specs.Prelude.{◌≡◌, ℕ, ◌+◌, ◌-◌, ◌*◌, ◌%◌, Bool, true, false, cond, ◌&&◌, ◌||◌, List, [], ◌∷◌, length, take, drop, Some, None, Ok, Err, sum, Option, Result, ◌==◌, nat_lt}
+use Rattle.std.specs.Option.{ok_or}
 use Rattle.srecord.specs.declared.line.Fault.{Fault}
 use Rattle.srecord.specs.declared.line.Fault.TheVariants.{Shape, Checksum}
 use Rattle.srecord.specs.declared.line.Fault.TheVariants as fault
@@ -7,7 +8,6 @@ use Rattle.srecord.specs.declared.line.Form.{Form}
 use Rattle.srecord.specs.declared.line.Kind.{Kind}
 use Rattle.srecord.specs.declared.line.Kind.TheVariants.{Header, Data, Count, End}
 use Rattle.srecord.specs.declared.line.Line.{Line}
-use Rattle.srecord.specs.declared.line.Place.{Place}
 use Rattle.srecord.specs.declared.line.Line.TheVariants as lent
 use Rattle.srecord.specs.Hex.{pair_value, bytes_of, number}
 
@@ -40,6 +40,10 @@ form_of t =
     (cond (t == 56) (Some (record { kind = End; width = 3 }))
     (cond (t == 57) (Some (record { kind = End; width = 2 })) None)))))))
 
+-- a type digit is read as its form, and any other character has a fault of shape
+abbrev pub ReadsType : ℕ → Result Form Fault → Type 0
+ReadsType t r = r ≡ ok_or (form_of t) Shape
+
 -- headers and data lines carry data, counts and ends do not
 abbrev pub carries_data : Kind → Bool
 carries_data Header = true
@@ -52,21 +56,17 @@ carries_data End = false
 abbrev pub count_fits : Form → ℕ → ℕ → Bool
 count_fits f c n = c == n && (nat_lt f.width n && (carries_data f.kind || n == f.width + 1))
 
--- the count of a line from its digits, by their number alone, where it is right
-abbrev pub count_for : Form → ℕ → Option ℕ → Option ℕ
-count_for f n None = None
-count_for f n (Some c) = cond (n == 2 * c && count_fits f c c) (Some c) None
+-- the digits of address and data among those behind the count c, where it is right for them
+abbrev pub fields_for : Form → List ℕ → Option ℕ → Option (List ℕ × List ℕ)
+fields_for f ds None = None
+fields_for f ds (Some c) =
+    cond (length ds == 2 * c && count_fits f c c) (Some (take (2 * f.width) ds, take (2 * (c - f.width - 1)) (drop (2 * f.width) ds))) None
 
--- the same from the digits themselves, the count being the first pair
-abbrev pub count_in : Form → List ℕ → Option ℕ
-count_in f [] = None
-count_in f (x ∷ []) = None
-count_in f (x ∷ y ∷ rest) = count_for f (length rest) (pair_value x y)
-
--- where the data digits stand in a line whose count is c: they follow mark, type, count and address,
--- and are followed by the checksum
-abbrev pub place_of : Form → ℕ → Option Place
-place_of f c = cond (carries_data f.kind) (Some (record { start = 4 + 2 * f.width; len = 2 * (c - f.width - 1) })) None
+-- the same from the digits with those of the count, which are the first pair
+abbrev pub fields_in : Form → List ℕ → Option (List ℕ × List ℕ)
+fields_in f [] = None
+fields_in f (x ∷ []) = None
+fields_in f (x ∷ y ∷ ds) = fields_for f ds (pair_value x y)
 
 -- the data digits of a line with n bytes after its count: they follow mark, type, count and address,
 -- and are followed by the checksum
@@ -84,6 +84,11 @@ says End a ds = end
 -- low byte of the sum of the others
 abbrev pub sum_fits : List ℕ → Bool
 sum_fits bs = sum bs % 256 == 255
+
+-- what is wrong with the sum of the bytes that digits spell, if they spell any
+abbrev pub checked : Option (List ℕ) → Result (Unit {0}) Fault
+checked None = Err Shape
+checked (Some bs) = cond (sum_fits bs) (Ok tt) (Err Checksum)
 
 -- what a line of form f says whose count is c and is followed by the bytes of body
 abbrev pub line_from : Form → List ℕ → ℕ → List ℕ → Result Content Fault

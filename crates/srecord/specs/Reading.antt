@@ -1,5 +1,5 @@
 -- What a reader hands out of a text, and the fault at which it stops.
-use Rattle.std.specs.Prelude.{ℕ, ◌+◌, Bool, true, false, cond, List, [], ◌∷◌, Some, None, Ok, Err, Option, Result, ◌==◌}
+use Rattle.std.specs.Prelude.{◌≡◌, ℕ, ◌+◌, ◌<◌, Bool, true, false, cond, List, [], ◌∷◌, ◌++◌, length, map, Some, None, Ok, Err, Option, Result, ◌==◌}
 use Rattle.srecord.specs.declared.line.Fault.{Fault}
 use Rattle.srecord.specs.declared.line.Fault.TheVariants.{Order, Count, NoEnd}
 use Rattle.srecord.specs.declared.reader.FaultAt.{FaultAt}
@@ -86,11 +86,11 @@ handing r c = record { records = r ∷ c.records; fault = c.fault }
 
 -- a text that ends without an end line has a fault on no line
 abbrev pub at_last : Phase → Option FaultAt
-at_last p = cond (at_end p) None (Some (record { fault = NoEnd; line = 0 }))
+at_last p = cond (at_end p) None (Some (record { fault = NoEnd; line = None }))
 
 -- what is to come from line n on, after k data lines, where go says what is to come of the later lines
 abbrev pub leads_to : ℕ → (Phase → ℕ → Coming) → ℕ → Step → Coming
-leads_to n go k (stop f) = stopped (Some (record { fault = f; line = n }))
+leads_to n go k (stop f) = stopped (Some (record { fault = f; line = Some n }))
 leads_to n go k (pass q) = go q k
 leads_to n go k (hand q a ds) = handing (record { line = n; address = a; digits = ds }) (go q (k + 1))
 
@@ -135,3 +135,19 @@ abbrev pub answered : Result (Option Record) FaultAt → Result (Option Handed) 
 answered (Ok None) = Ok None
 answered (Ok (Some r)) = Ok (Some (handed_by r))
 answered (Err f) = Err f
+
+-- the fault of a text as the last of what is handed out one by one
+abbrev pub fault_item : Option FaultAt → List (Result Handed FaultAt)
+fault_item None = []
+fault_item (Some f) = Err f ∷ []
+
+-- what is to come, one by one: each record, and then the fault, if there is one
+abbrev pub items_of : Coming → List (Result Handed FaultAt)
+items_of c = map Ok c.records ++ fault_item c.fault
+
+-- what reading one line of a reader leads to, where its text is not empty: a fault of that line, at which it
+-- stops and nothing changes; or less text with the same to come; or less text behind the next record
+abbrev pub ReadsOne : Reader → Result (Option Record) Fault → Reader → Type 0
+ReadsOne r (Err f) s = (coming r ≡ stopped (Some (record { fault = f; line = Some (r.lines + 1) }))) × (s ≡ r)
+ReadsOne r (Ok None) s = (coming r ≡ coming s) × (length s.rest.now < length r.rest.now)
+ReadsOne r (Ok (Some x)) s = (coming r ≡ handing (handed_by x) (coming s)) × (length s.rest.now < length r.rest.now)

@@ -11,4 +11,4 @@ mod text;
 pub use bytes::{MAX_BYTES, RecordBytes};
 pub use examples::examples_hold;
 pub use line::{Fault, Line, read_line};
-pub use reader::{FaultAt, Reader, Record};
+pub use reader::{FaultAt, Reader, Record, Records};

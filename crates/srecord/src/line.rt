@@ -1,9 +1,9 @@
 // One line: its mark, type, count, address, data and checksum.
-ghost use Rattle.std.specs.Prelude.{◌≡◌, ◌+◌, ◌-◌, ◌*◌, ◌<◌, ◌≤◌, length, take, drop};
+ghost use Rattle.std.specs.Prelude.{◌≡◌};
 ghost use Rattle.std.specs.Option.{option_map};
 ghost use Rattle.srecord.specs.File.{ReadsLine};
 ghost use Rattle.srecord.specs.Hex.{bytes_of};
-ghost use Rattle.srecord.specs.Line.{fault_number, form_of, place_of, sum_fits, count_in, content_of, says, data_digits, said, line_of};
+ghost use Rattle.srecord.specs.Line.{fault_number, ReadsType, carries_data, count_fits, fields_in, checked, content_of, says, said, line_of};
 
 use crate::hex::{number, pair, sum};
 
@@ -18,7 +18,7 @@ pub enum Fault {
 }
 
 impl Fault {
-    // The number by which the fault is reported.
+    // The number by which the fault is reported; a `u8::from` would not say which number it gives.
     pub fn number(self) -> u8
         ensures { result ≡ fault_number self }
     {
@@ -49,6 +49,15 @@ pub enum Kind {
     End,
 }
 
+impl Kind {
+    // Whether lines of the kind carry data.
+    fn carries_data(self) -> bool
+        ensures { result ≡ carries_data self }
+    {
+        matches!(self, Kind::Header | Kind::Data)
+    }
+}
+
 // What a type digit says: the kind of line, and the number of its address bytes.
 #[derive(Clone, Copy)]
 pub struct Form {
@@ -56,14 +65,7 @@ pub struct Form {
     width: usize,
 }
 
-// Where a line's data digits begin, and how many there are.
-#[derive(Clone, Copy)]
-pub struct Place {
-    start: usize,
-    len: usize,
-}
-
-// Reads one line, without its end.
+// Reads one line, without its end. The law is shown here of the equation, and not at each exit of `parse_line`.
 pub fn read_line(line: &[u8]) -> Result<Line<'_>, Fault>
     ensures answer { said result ≡ line_of line.now }
     ensures law { ReadsLine line.now (said result) }
@@ -78,145 +80,78 @@ pub(crate) fn parse_line(line: &[u8]) -> Result<Line<'_>, Fault>
     let [b'S', digit, digits @ ..] = line else {
         return Err(Fault::Shape);
     };
-    let Some(form) = form_of(*digit) else {
-        return Err(Fault::Shape);
-    };
-    let Some(count) = count_of(form, digits) else {
-        return Err(Fault::Shape);
-    };
-    let Some(address) = number(address_digits(form, digits)) else {
-        return Err(Fault::Shape);
-    };
-    let Some(closed) = checksum_fits(digits) else {
-        return Err(Fault::Shape);
-    };
-    if !closed {
-        return Err(Fault::Checksum);
-    }
-    Ok(line_of(form, count, address, line))
+    let form = Form::try_from(*digit)?;
+    let (address, data) = form.fields(digits).ok_or(Fault::Shape)?;
+    let address = number(address).ok_or(Fault::Shape)?;
+    check_sum(digits)?;
+    Ok(form.line(address, data))
 }
 
-// What a type digit says; none for a digit that is no type.
-fn form_of(digit: u8) -> Option<Form>
-    ensures { result ≡ form_of digit }
+// Whether the sum of count, address, data and checksum is 255 modulo 256.
+fn check_sum(digits: &[u8]) -> Result<(), Fault>
+    ensures { result ≡ checked (bytes_of digits.now) }
 {
-    match digit {
-        b'0' => Some(Form {
-            kind: Kind::Header,
-            width: 2,
-        }),
-        b'1' => Some(Form {
-            kind: Kind::Data,
-            width: 2,
-        }),
-        b'2' => Some(Form {
-            kind: Kind::Data,
-            width: 3,
-        }),
-        b'3' => Some(Form {
-            kind: Kind::Data,
-            width: 4,
-        }),
-        b'5' => Some(Form {
-            kind: Kind::Count,
-            width: 2,
-        }),
-        b'7' => Some(Form {
-            kind: Kind::End,
-            width: 4,
-        }),
-        b'8' => Some(Form {
-            kind: Kind::End,
-            width: 3,
-        }),
-        b'9' => Some(Form {
-            kind: Kind::End,
-            width: 2,
-        }),
-        _ => None,
+    match sum(digits) {
+        Some(0xff) => Ok(()),
+        Some(_) => Err(Fault::Checksum),
+        None => Err(Fault::Shape),
     }
 }
 
-// The count of a line, where it is right for the digits that follow it and for the line's form.
-fn count_of(form: Form, digits: &[u8]) -> Option<usize>
-    ensures { result ≡ count_in form digits.now }
-{
-    let [high, low, rest @ ..] = digits else {
-        return None;
-    };
-    let Some(byte) = pair(*high, *low) else {
-        return None;
-    };
-    let count = usize::from(byte);
-    if rest.len() != 2 * count || count <= form.width {
-        return None;
+impl TryFrom<u8> for Form {
+    type Error = Fault;
+
+    ghost try_from_gives = { ReadsType };
+
+    fn try_from(digit: u8) -> Result<Form, Fault> {
+        let (kind, width) = match digit {
+            b'0' => (Kind::Header, 2),
+            b'1' => (Kind::Data, 2),
+            b'2' => (Kind::Data, 3),
+            b'3' => (Kind::Data, 4),
+            b'5' => (Kind::Count, 2),
+            b'7' => (Kind::End, 4),
+            b'8' => (Kind::End, 3),
+            b'9' => (Kind::End, 2),
+            _ => return Err(Fault::Shape),
+        };
+        Ok(Form { kind, width })
     }
-    match form.kind {
-        Kind::Header | Kind::Data => Some(count),
-        Kind::Count | Kind::End => {
-            if count == form.width + 1 {
-                Some(count)
-            } else {
-                None
-            }
+}
+
+impl Form {
+    // The digits of address and data, where the count before them is right for them and the form.
+    fn fields(self, digits: &[u8]) -> Option<(&[u8], &[u8])>
+        ensures { option_map (λ p. (p.0.now, p.1.now)) result ≡ fields_in self digits.now }
+    {
+        let [high, low, body @ ..] = digits else {
+            return None;
+        };
+        let count = usize::from(pair(*high, *low)?);
+        if body.len() != 2 * count || !self.takes(count) {
+            return None;
+        }
+        let start = 2 * self.width;
+        Some((&body[..start], &body[start..body.len() - 2]))
+    }
+
+    // Whether a line of the form can have so many bytes behind its count: address and checksum, and data
+    // where it carries any.
+    fn takes(self, count: usize) -> bool
+        ensures { result ≡ count_fits self count count }
+    {
+        count > self.width && (self.kind.carries_data() || count - self.width == 1)
+    }
+
+    // The line of the form that has this address, and these data digits where it carries data.
+    fn line(self, address: u32, digits: &[u8]) -> Line<'_>
+        ensures { content_of result ≡ says self.kind address digits.now }
+    {
+        match self.kind {
+            Kind::Header => Line::Header(digits),
+            Kind::Data => Line::Data(address, digits),
+            Kind::Count => Line::Count(address),
+            Kind::End => Line::End,
         }
     }
-}
-
-// The digits of the address, behind those of the count.
-fn address_digits(form: Form, digits: &[u8]) -> &[u8]
-    requires { 2 + 2 * form.width ≤ length digits.now }
-    ensures { result.now ≡ take (2 * form.width) (drop 2 digits.now) }
-{
-    &digits[2..2 + 2 * form.width]
-}
-
-// Whether the sum of count, address, data and checksum is 255 modulo 256; none where the digits are no
-// pairs.
-fn checksum_fits(digits: &[u8]) -> Option<bool>
-    ensures { result ≡ option_map sum_fits (bytes_of digits.now) }
-{
-    let Some(low_byte) = sum(digits) else {
-        return None;
-    };
-    Some(low_byte == 0xff)
-}
-
-// The line of a form, with its address and with its data digits where it carries data.
-fn line_of(form: Form, count: usize, address: u32, line: &[u8]) -> Line<'_>
-    requires { (form.width < count) × ((count < 256) × ((form.width ≤ 4) × (length line.now ≡ 4 + 2 * count))) }
-    ensures { content_of result ≡ says form.kind address (data_digits form line.now count) }
-{
-    match (data_place(form, count), form.kind) {
-        (Some(place), Kind::Header) => Line::Header(data_digits(line, place)),
-        (Some(place), _) => Line::Data(address, data_digits(line, place)),
-        (None, Kind::Count) => Line::Count(address),
-        (None, _) => Line::End,
-    }
-}
-
-// The place of the data digits in a line; none for a kind that carries no data.
-fn data_place(form: Form, count: usize) -> Option<Place>
-    requires { (form.width < count) × ((count < 256) × (form.width ≤ 4)) }
-    ensures { result ≡ place_of form count }
-{
-    match form.kind {
-        Kind::Header | Kind::Data => {
-            Some(Place {
-                start: 4 + 2 * form.width,
-                len: 2 * (count - form.width - 1),
-            })
-        }
-        Kind::Count | Kind::End => None,
-    }
-}
-
-// The data digits of a line.
-fn data_digits(line: &[u8], place: Place) -> &[u8]
-    requires { place.start + place.len ≤ length line.now }
-    ensures { result.now ≡ take place.len (drop place.start line.now) }
-{
-    let start = place.start;
-    let end = start + place.len;
-    &line[start..end]
 }

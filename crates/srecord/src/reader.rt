@@ -1,8 +1,10 @@
-// A reader over a text: what it holds. Its steps are in the module below.
+// A reader over a text, and its records as an iterator: what they hold. Their steps are in the modules
+// below.
 ghost use Rattle.std.specs.Prelude.{◌+◌, ◌^◌, ◌<◌, ◌≤◌, length};
 
 use crate::line::Fault;
 
+mod iter;
 mod steps;
 
 // A data record: its line from 1, its address, and the digits of its data as a part of the text.
@@ -13,11 +15,11 @@ pub struct Record<'a> {
     pub digits: &'a [u8],
 }
 
-// A fault, and the line that has it, from 1; 0 where no line has it.
+// A fault, and the line that has it, from 1; none where no line has it.
 #[derive(Clone, Copy, PartialEq, Eq, Debug)]
 pub struct FaultAt {
     pub fault: Fault,
-    pub line: usize,
+    pub line: Option<usize>,
 }
 
 // How far the order of lines has come.
@@ -29,6 +31,7 @@ pub enum Phase {
     Ended,
 }
 
+// It is `Copy`, as a type with a model and a lifetime can't be: `coming` of the definitions says what it means.
 #[derive(Clone, Copy)]
 pub struct Reader<'a> {
     rest: &'a [u8],
@@ -37,4 +40,11 @@ pub struct Reader<'a> {
     phase: Phase,
     ghost counted: { lines + length rest.now < 2 ^ 64 },
     ghost among: { records ≤ lines },
+}
+
+// The records that a reader hands out, as an iterator that ends behind a fault.
+#[derive(Drop)]
+pub struct Records<'a> {
+    // none once the text has ended or its fault was handed out
+    reader: Option<Reader<'a>>,
 }

@@ -10,13 +10,8 @@ pub(crate) fn first_line(text: &[u8]) -> Result<(Line<'_>, &[u8]), Fault>
     requires { 0 < length text.now }
     ensures { ReadsFirst text.now result }
 {
-    let Some((line, rest)) = cut_line(text) else {
-        return Err(Fault::Shape);
-    };
-    match parse_line(line) {
-        Ok(read) => Ok((read, rest)),
-        Err(fault) => Err(fault),
-    }
+    let (line, rest) = cut_line(text).ok_or(Fault::Shape)?;
+    Ok((parse_line(line)?, rest))
 }
 
 // The line that the count at its front measures, without its end, and what follows the end; none
@@ -27,17 +22,9 @@ fn cut_line(text: &[u8]) -> Option<(&[u8], &[u8])>
     let [_, _, high, low, ..] = text else {
         return None;
     };
-    let Some(count) = pair(*high, *low) else {
-        return None;
-    };
-    let end = 4 + 2 * usize::from(count);
-    if end > text.len() {
-        return None;
-    }
-    let Some(rest) = after_end(&text[end..]) else {
-        return None;
-    };
-    Some((&text[0..end], rest))
+    let count = usize::from(pair(*high, *low)?);
+    let (line, tail) = text.split_at_checked(4 + 2 * count)?;
+    Some((line, after_end(tail)?))
 }
 
 // What follows the end of a line at the front of a text; none where no line ends there.
@@ -46,8 +33,7 @@ fn after_end(text: &[u8]) -> Option<&[u8]>
 {
     match text {
         [] => Some(text),
-        [b'\n', rest @ ..] => Some(rest),
-        [b'\r', b'\n', rest @ ..] => Some(rest),
+        [b'\n', rest @ ..] | [b'\r', b'\n', rest @ ..] => Some(rest),
         _ => None,
     }
 }

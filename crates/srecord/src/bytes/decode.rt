@@ -4,7 +4,7 @@ ghost use Rattle.std.specs.Option.{option_map};
 ghost use Rattle.srecord.specs.Bytes.{bytes_in, decoded};
 
 use crate::bytes::{MAX_BYTES, RecordBytes};
-use crate::hex::pair;
+use crate::hex::{pair, pairs};
 use crate::reader::Record;
 
 impl Record<'_> {
@@ -19,25 +19,19 @@ impl Record<'_> {
     pub fn bytes(&self) -> Option<RecordBytes>
         ensures { option_map bytes_in result ≡ decoded self.now.digits.now }
     {
-        let mut rest = self.digits;
-        if rest.len() > 2 * MAX_BYTES {
+        let pairs = pairs(self.digits)?;
+        if pairs.len() > MAX_BYTES {
             return None;
         }
         let mut bytes = [0; MAX_BYTES];
-        let mut len = 0;
-        while let [high, low, tail @ ..] = rest {
-            let Some(byte) = pair(*high, *low) else {
-                return None;
-            };
-            bytes[len] = byte;
-            len += 1;
-            rest = tail;
+        // By index, since a proof knows nothing of what is written through `iter_mut().zip(..)`.
+        for (at, [high, low]) in pairs.iter().enumerate() {
+            bytes[at] = pair(*high, *low)?;
         }
-        if rest.is_empty() {
-            Some(RecordBytes { bytes, len })
-        } else {
-            None
-        }
+        Some(RecordBytes {
+            bytes,
+            len: pairs.len(),
+        })
     }
 }
 
@@ -46,7 +40,6 @@ impl RecordBytes {
     pub fn as_slice(&self) -> &[u8]
         ensures { result.now ≡ bytes_in self.now }
     {
-        let len = self.len;
-        &self.bytes[0..len]
+        &self.bytes[..self.len]
     }
 }

@@ -1,6 +1,6 @@
 // How a reader goes on from line to line.
-ghost use Rattle.std.specs.Prelude.{◌≡◌, ◌+◌, ◌^◌, ◌<◌};
-ghost use Rattle.srecord.specs.Reading.{coming_of, coming, answered, next_of, rest_of, records_with, follow as follow_of};
+ghost use Rattle.std.specs.Prelude.{◌≡◌, ◌+◌, ◌^◌, ◌<◌, length};
+ghost use Rattle.srecord.specs.Reading.{coming_of, coming, answered, next_of, rest_of, ReadsOne, records_with, follow as follow_of};
 ghost use Rattle.srecord.specs.Line.{content_of};
 
 use crate::line::{Fault, Line};
@@ -26,73 +26,78 @@ impl<'a> Reader<'a> {
         ensures answer { answered result ≡ next_of (coming self.old) }
         ensures after { coming self.new ≡ rest_of (coming self.old) }
     {
-        let Reader {
-            mut rest,
-            mut lines,
-            records,
-            mut phase,
-        } = *self;
-        while !rest.is_empty() {
-            lines += 1;
-            let (line, tail) = match first_line(rest) {
-                Ok(first) => first,
-                Err(fault) => return Err(FaultAt { fault, line: lines }),
-            };
-            rest = tail;
-            phase = match follow(phase, records, line) {
-                Ok(next) => next,
-                Err(fault) => return Err(FaultAt { fault, line: lines }),
-            };
-            if let Line::Data(address, digits) = line {
-                *self = Reader {
-                    rest,
-                    lines,
-                    records: records_with(records, line),
-                    phase,
-                };
-                return Ok(Some(Record {
-                    line: lines,
-                    address,
-                    digits,
-                }));
+        let mut ahead = *self;
+        while !ahead.rest.is_empty() {
+            let line = ahead.lines + 1;
+            let read = ahead.read_line().map_err(|fault| FaultAt {
+                fault,
+                line: Some(line),
+            })?;
+            if let Some(record) = read {
+                *self = ahead;
+                return Ok(Some(record));
             }
         }
-        match phase {
+        match ahead.phase {
             Phase::Ended => Ok(None),
             _ => Err(FaultAt {
                 fault: Fault::NoEnd,
-                line: 0,
+                line: None,
             }),
         }
     }
-}
 
-// How many data lines there are with one line more.
-fn records_with(records: usize, line: Line<'_>) -> usize
-    requires { records + 1 < 2 ^ 64 }
-    ensures { result ≡ records_with records (content_of line.entry) }
-{
-    match line {
-        Line::Data(_, _) => records + 1,
-        Line::Header(_) | Line::Count(_) | Line::End => records,
+    // Reads one line, and hands out its record if it is a data line.
+    fn read_line(&mut self) -> Result<Option<Record<'a>>, Fault>
+        requires { 0 < length self.old.rest.now }
+        ensures { ReadsOne self.old result self.new }
+    {
+        let (line, rest) = first_line(self.rest)?;
+        let phase = self.follow(line)?;
+        *self = Reader {
+            rest,
+            lines: self.lines + 1,
+            records: self.records_with(line),
+            phase,
+        };
+        Ok(match line {
+            Line::Data(address, digits) => Some(Record {
+                line: self.lines,
+                address,
+                digits,
+            }),
+            Line::Header(_) | Line::Count(_) | Line::End => None,
+        })
     }
-}
 
-// How far the order of lines has come with one line more, after some data lines.
-fn follow(phase: Phase, records: usize, line: Line<'_>) -> Result<Phase, Fault>
-    ensures { result ≡ follow_of phase records (content_of line.entry) }
-{
-    match (phase, line) {
-        (Phase::Start, Line::Header(_)) => Ok(Phase::Body),
-        (Phase::Start | Phase::Body, Line::Data(_, _)) => Ok(Phase::Body),
-        (Phase::Start | Phase::Body, Line::Count(count)) => {
-            if count as usize == records {
-                Ok(Phase::Counted)
-            } else {
-                Err(Fault::Count)
-            }
+    // How many data lines there are with one line more.
+    fn records_with(&self, line: Line<'_>) -> usize
+        requires { 0 < length self.now.rest.now }
+        ensures { result ≡ records_with self.now.records (content_of line.entry) }
+    {
+        match line {
+            Line::Data(_, _) => self.records + 1,
+            Line::Header(_) | Line::Count(_) | Line::End => self.records,
         }
-        (Phase::Start | Phase::Body | Phase::Counted, Line::End) => Ok(Phase::Ended),
-        _ => Err(Fault::Order),
+    }
+
+    // How far the order of lines has come with one line more.
+    fn follow(&self, line: Line<'_>) -> Result<Phase, Fault>
+        ensures { result ≡ follow_of self.now.phase self.now.records (content_of line.entry) }
+    {
+        match (self.phase, line) {
+            (Phase::Start, Line::Header(_)) => Ok(Phase::Body),
+            (Phase::Start | Phase::Body, Line::Data(_, _)) => Ok(Phase::Body),
+            (Phase::Start | Phase::Body, Line::Count(count)) => {
+                // No `From` takes a u32 to a usize.
+                if count as usize == self.records {
+                    Ok(Phase::Counted)
+                } else {
+                    Err(Fault::Count)
+                }
+            }
+            (Phase::Start | Phase::Body | Phase::Counted, Line::End) => Ok(Phase::Ended),
+            _ => Err(Fault::Order),
+        }
     }
 }

@@ -1,9 +1,6 @@
-use Rattle.std.proofs.Common.{◌≡◌, ◌-◌, length}
+use Rattle.std.proofs.Common.{◌≡◌, ◌-◌}
 use Rattle.file_check.specs.Causes.{behind_lines}
 use Rattle.file_check.proofs.cause.from_line.Given as goal
 
-abbrev pub invariant-loop-above : goal.invariant-loop-above
-invariant-loop-above l = behind_lines l.above l.rest ≡ behind_lines (l.line - 1) l.text
-
-abbrev pub decreases-loop-above : goal.decreases-loop-above
-decreases-loop-above l = length l.rest
+abbrev pub invariant-loop : goal.invariant-loop
+invariant-loop l = behind_lines (l.line - l.counter) l.rest ≡ behind_lines (l.line - 1) l.text

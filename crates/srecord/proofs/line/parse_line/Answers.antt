@@ -1,53 +1,55 @@
-use Rattle.std.proofs.Common.{◌≡◌, ◌*◌, cond, length, Ok, Err, sym, ap, ◌∙◌, arith, rules}
-use Rattle.std.specs.Option.{option_map}
-use Rattle.std.proofs.lemmas.List.{length-take}
-use Rattle.std.proofs.lemmas.Bool.{cond-true, cond-false}
-use Rattle.srecord.specs.declared.line.Fault.TheVariants.{Checksum}
+use Rattle.std.proofs.Common.{◌≡◌, ℕ, Some, None, Ok, Option, Result, sym, refl, ap, ◌∙◌, arith, rules}
+use Rattle.std.specs.Option.{ok_or, option_map}
+use Rattle.srecord.specs.declared.line.Fault.{Fault}
 use Rattle.srecord.specs.Hex.{bytes_of, number}
-use Rattle.srecord.specs.Line.{says, data_digits, line_of}
-use Rattle.srecord.proofs.Lines.{Marked, line_uncounted, line_width, line_long, line_no_address, line_no_sum, line_summed}
+use Rattle.srecord.specs.Line.{said, checked, fields_in, line_of}
+use Rattle.srecord.proofs.Lines.{Marked, digits_of, line_uncounted, parsed, line_parsed, address_short}
+use Rattle.srecord.proofs.Passing.{err_passed, none_passed}
 use Rattle.srecord.proofs.line.parse_line.Goals as goal
-use Rattle.srecord.proofs.line.parse_line.Goals.{In-Some, In-Some-checksum_fits}
+use Rattle.srecord.proofs.line.parse_line.Goals.{In_ok-form, In_ok-address, In_ok-address-2}
 
-marked : (c : In-Some) → Marked c.args.line.now c.in-Some.form
-marked c = record { two = search rules; mark = search rules; form = sym c.form_of.ensures ∙ c.in-Some.is }
+-- what an `ok_or` that answered so was asked
+ok_value : {X E : Type 0} (o : Option X) (e : E) (x : X) → ok_or o e ≡ Ok x → o ≡ Some x
+ok_value None e x h = cc
+ok_value (Some y) e x h = cc
 
-pub returns-in_default-count_of : goal.returns-in_default-count_of
-returns-in_default-count_of c =
-    sym (line_uncounted (marked (goal.at.returns-in_default-count_of c).In-Some) (sym c.count_of.ensures ∙ c.in_default-count_of.is))
+marked : (c : In_ok-form) → Marked c.args.line.now c.in_ok-form.form
+marked c = record { two = omega arith; mark = search rules; form = ok_value _ _ _ (sym c.in_ok-form.ensures) }
+
+fielded : (c : In_ok-address) → fields_in c.in_ok-form.form (digits_of c.args.line.now) ≡ Some (c.in_ok-address.address.now, c.in_ok-address.data.now)
+fielded c =
+    sym c.fields.ensures ∙ ap (option_map (λ p. (p.0.now, p.1.now))) c.in_ok-address.ensures.ok_part
+
+-- what the line says by its fields, once they are read
+parses : (c : In_ok-address) (o : Option ℕ) (r : Result (Unit {0}) Fault) → option_map number (bytes_of c.in_ok-address.address.now) ≡ o → checked (bytes_of (digits_of c.args.line.now)) ≡ r → line_of c.args.line.now ≡ parsed c.in_ok-form.form c.in_ok-address.data.now o r
+parses c o r a k =
+    line_parsed c.args.line.now (marked (goal.at.In_ok-address c).In_ok-form) _ (fielded c) ∙ (λ i. parsed c.in_ok-form.form c.in_ok-address.data.now (a i) (k i))
+
+address : (c : In_ok-address-2) → option_map number (bytes_of c.in_ok-address.address.now) ≡ Some c.in_ok-address-2.address
+address c = sym c.number.ensures ∙ c.in_ok-address-2.ensures.ok_part
+
+pub returns-in_err-address : goal.returns-in_err-address
+returns-in_err-address c =
+    ap said (none_passed c.from_residual-in_err-address.result c.fields.result c.from_residual-in_err-address.ensures.1 c.in_err-address.ensures.value)
+    ∙ sym (line_uncounted c.args.line.now (marked (goal.at.returns-in_err-address c).In_ok-form)
+    (sym c.fields.ensures ∙ ap (option_map (λ p. (p.0.now, p.1.now))) c.in_err-address.ensures.ok_part))
 
 pub number-requires : goal.number-requires
 number-requires c =
-    let w = line_width (marked (goal.at.number-requires c).In-Some) in
-    let n = ap length c.address_digits.ensures ∙ length-take (2 * c.in-Some.form.width) _ in
-    omega arith
+    let at = (goal.at.number-requires c).In_ok-address in
+    address_short (marked (goal.at.In_ok-address at).In_ok-form) _ (fielded at)
 
-pub returns-in_default-number : goal.returns-in_default-number
-returns-in_default-number c =
-    sym (line_no_address (marked (goal.at.returns-in_default-number c).In-Some) c.in-Some-count_of.count (sym c.count_of.ensures ∙ c.in-Some-count_of.is)
-    (ap (λ l. option_map number (bytes_of l)) (sym c.address_digits.ensures) ∙ sym c.number.ensures ∙ c.in_default-number.is))
+pub returns-in_err-address-2 : goal.returns-in_err-address-2
+returns-in_err-address-2 c =
+    ap said (none_passed c.from_residual-in_err-address-2.result c.number.result c.from_residual-in_err-address-2.ensures.1 c.in_err-address-2.ensures.value)
+    ∙ sym (parses (goal.at.returns-in_err-address-2 c).In_ok-address None _ (sym c.number.ensures ∙ c.in_err-address-2.ensures.ok_part) refl)
 
-pub returns-in_default-checksum_fits : goal.returns-in_default-checksum_fits
-returns-in_default-checksum_fits c =
-    sym (line_no_sum (marked (goal.at.returns-in_default-checksum_fits c).In-Some) (sym c.checksum_fits.ensures ∙ c.in_default-checksum_fits.is))
-
--- what the line says once its digits are summed up
-summed : (c : In-Some-checksum_fits) → line_of c.args.line.now ≡ cond c.in-Some-checksum_fits.closed (Ok (says c.in-Some.form.kind c.in-Some-number.address (data_digits c.in-Some.form c.args.line.now c.in-Some-count_of.count))) (Err Checksum)
-summed c =
-    line_summed (marked (goal.at.In-Some-checksum_fits c).In-Some) c.in-Some-count_of.count c.in-Some-number.address c.in-Some-checksum_fits.closed (sym c.count_of.ensures ∙ c.in-Some-count_of.is)
-    (ap (λ l. option_map number (bytes_of l)) (sym c.address_digits.ensures) ∙ sym c.number.ensures ∙ c.in-Some-number.is)
-    (sym c.checksum_fits.ensures ∙ c.in-Some-checksum_fits.is)
-
-pub returns-then-not-closed : goal.returns-then-not-closed
-returns-then-not-closed c =
-    sym (summed (goal.at.returns-then-not-closed c).In-Some-checksum_fits ∙ cond-false c.in-Some-checksum_fits.closed _ _ c.if-not-closed.true)
-
-pub line_of-requires : goal.line_of-requires
-line_of-requires c =
-    let p = line_long (marked (goal.at.line_of-requires c).In-Some) c.in-Some-count_of.count (sym c.count_of.ensures ∙ c.in-Some-count_of.is) in
-    (p.0, (p.1, (p.2, p.3)))
+pub returns-in_err-check_sum : goal.returns-in_err-check_sum
+returns-in_err-check_sum c =
+    ap said (err_passed c.from_residual-in_err-check_sum.result c.from_residual-in_err-check_sum.ensures.1)
+    ∙ sym (parses (goal.at.returns-in_err-check_sum c).In_ok-address _ _ (address (goal.at.returns-in_err-check_sum c).In_ok-address-2) (sym c.in_err-check_sum.ensures))
 
 pub returns : goal.returns
 returns c =
-    ap Ok c.line_of.ensures
-    ∙ sym (summed (goal.at.returns c).In-Some-checksum_fits ∙ cond-true c.in-Some-checksum_fits.closed _ _ c.if-not-closed.false)
+    ap Ok c.line.ensures
+    ∙ sym (parses (goal.at.returns c).In_ok-address _ _ (address (goal.at.returns c).In_ok-address-2) (sym c.in_ok-check_sum.ensures))

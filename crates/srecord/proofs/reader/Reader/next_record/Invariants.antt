@@ -1,13 +1,10 @@
-use Rattle.std.proofs.Common.{◌≡◌, ◌+◌, ◌^◌, ◌<◌, ◌≤◌, length}
-use Rattle.srecord.specs.Reading.{coming, coming_from}
-use Rattle.srecord.specs.Text.{lines_of}
+use Rattle.std.proofs.Common.{◌≡◌, length}
+use Rattle.srecord.specs.Reading.{coming}
 use Rattle.srecord.proofs.reader.Reader.next_record.Given as goal
 
--- what is left of the text has what is to come, and its lines can be counted
-abbrev pub invariant-loop-rest : goal.invariant-loop-rest
-invariant-loop-rest l =
-    (coming_from l.phase l.records l.lines (lines_of l.rest) ≡ coming l.self)
-    × (l.self ≡ l.initial.self) × (l.lines + length l.rest < 2 ^ 64) × (l.records ≤ l.lines)
+-- what is to come has not changed
+abbrev pub invariant-loop-line : goal.invariant-loop-line
+invariant-loop-line l = (coming l.self ≡ coming l.ahead) × (l.self ≡ l.initial.self)
 
-abbrev pub decreases-loop-rest : goal.decreases-loop-rest
-decreases-loop-rest l = length l.rest
+abbrev pub decreases-loop-line : goal.decreases-loop-line
+decreases-loop-line l = length l.ahead.rest.now

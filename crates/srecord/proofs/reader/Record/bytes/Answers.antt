@@ -1,32 +1,40 @@
-use Rattle.std.proofs.Common.{◌≤◌, length, sym, ap, ◌∙◌, arith, rules, true-eqb, false-eqb}
-use Rattle.std.proofs.lemmas.List.{length-set, length-drop, take_rest, take_more_set}
-use Rattle.srecord.proofs.Pairs.{fold_pairs, tail_of2, add_last, fold_more, fold_none, fold_end, fold_odd, fold-add_last, decoded-short}
+use Rattle.std.proofs.Common.{◌≡◌, ◌≤◌, [], length, take, Some, ap, sym, ◌∙◌, arith}
+use Rattle.std.specs.Option.{option_map}
+use Rattle.srecord.specs.Bytes.{bytes_in, decoded}
+use Rattle.srecord.proofs.Pairs.{PairsOf, pairs_some, pairs_none, fold_pairs, add_last, fold_none, fold_end, fold-add_last, decoded-short, decoded-long, decoded-unspelled}
 use Rattle.srecord.proofs.reader.Record.bytes.Goals as goal
+use Rattle.srecord.proofs.reader.Record.bytes.Goals.{In_ok-pairs}
 
-pub returns-in_default-pair : goal.returns-in_default-pair
-returns-in_default-pair c =
-    sym (fold_none add_last _ c.loop-rest.rest.now (search rules) (sym c.pair.ensures ∙ c.in_default-pair.is))
-    ∙ c.loop-rest.invariant.0 ∙ fold-add_last _ ∙ decoded-short c.args.self.now.digits.now (search rules)
+-- the pairs are those of the record
+taken : (c : In_ok-pairs) → PairsOf c.args.self.now.digits.now c.in_ok-pairs.pairs.now
+taken c = pairs_some c.args.self.now.digits.now c.in_ok-pairs.pairs.now c.in_ok-pairs.ensures
 
-pub loop-rest-preserved : goal.loop-rest-preserved
-loop-rest-preserved c =
-    let two : 2 ≤ length c.loop-rest.rest.now = search rules in
-    let room = c.loop-rest.invariant.1 in
-    let long = c.loop-rest.invariant.2 in
-    let cut = ap length (take_rest c.loop-rest.rest.now 2) ∙ length-drop 2 c.loop-rest.rest.now in (
-      ap (λ l. fold_pairs add_last l (tail_of2 c.loop-rest.rest.now)) (take_more_set c.loop-rest.bytes c.loop-rest.len c.in-Some.byte (omega arith))
-          ∙ fold_more add_last _ c.loop-rest.rest.now c.in-Some.byte two (sym c.pair.ensures ∙ c.in-Some.is)
-          ∙ c.loop-rest.invariant.0,
-      omega arith,
-      length-set c.loop-rest.bytes _ _ ∙ c.loop-rest.invariant.2,
-    )
+-- what is decoded of up to 252 of them
+decodes : (c : In_ok-pairs) → length c.in_ok-pairs.pairs.now ≤ 252 → fold_pairs add_last [] c.in_ok-pairs.pairs.now ≡ decoded c.args.self.now.digits.now
+decodes c h =
+    let p = taken c in
+    let long = p.long in
+    ap (option_map _) p.spells ∙ fold-add_last c.args.self.now.digits.now ∙ decoded-short c.args.self.now.digits.now (omega arith)
 
-pub returns-then-is_empty : goal.returns-then-is_empty
-returns-then-is_empty c =
-    sym (fold_end add_last _ c.loop-rest.rest.now (true-eqb _ 0 c.if-is_empty.ensures))
-    ∙ c.loop-rest.invariant.0 ∙ fold-add_last _ ∙ decoded-short c.args.self.now.digits.now (search rules)
+pub returns-in_err-pairs : goal.returns-in_err-pairs
+returns-in_err-pairs c =
+    ap (option_map bytes_in) c.from_residual.ensures
+    ∙ decoded-unspelled _ (pairs_none c.args.self.now.digits.now c.in_err-pairs.ensures)
 
-pub returns-else-is_empty : goal.returns-else-is_empty
-returns-else-is_empty c =
-    sym (fold_odd add_last _ c.loop-rest.rest.now (search rules) (false-eqb _ 0 c.if-is_empty.ensures))
-    ∙ c.loop-rest.invariant.0 ∙ fold-add_last _ ∙ decoded-short c.args.self.now.digits.now (search rules)
+pub returns-then-pairs-gt-MAX_BYTES : goal.returns-then-pairs-gt-MAX_BYTES
+returns-then-pairs-gt-MAX_BYTES c =
+    let long = (taken (goal.at.returns-then-pairs-gt-MAX_BYTES c).In_ok-pairs).long in
+    decoded-long _ (omega arith)
+
+pub returns-in_err-bytes : goal.returns-in_err-bytes
+returns-in_err-bytes c =
+    ap (option_map bytes_in) c.from_residual-in_err-bytes.ensures
+    ∙ sym (fold_none add_last _ c.in_ok-pairs.pairs.now c.loop-at.at [] (omega arith) c.in_err-bytes.ensures)
+    ∙ c.loop-at.invariant.0 ∙ decodes (goal.at.returns-in_err-bytes c).In_ok-pairs (omega arith)
+
+pub returns : goal.returns
+returns c =
+    let at : c.loop-at.at ≡ length c.in_ok-pairs.pairs.now = omega arith in
+    ap (λ n. Some (take n c.loop-at.bytes)) (sym at)
+    ∙ sym (fold_end add_last _ c.in_ok-pairs.pairs.now c.loop-at.at (omega arith))
+    ∙ c.loop-at.invariant.0 ∙ decodes (goal.at.returns c).In_ok-pairs (omega arith)

@@ -1,11 +1,7 @@
-use Rattle.std.proofs.Common.{◌≡◌, ◌+◌, ◌*◌, ◌≤◌, [], length, take}
+use Rattle.std.proofs.Common.{◌≡◌, [], length, take, drop}
 use Rattle.srecord.proofs.Pairs.{fold_pairs, add_last}
 use Rattle.srecord.proofs.reader.Record.bytes.Given as goal
 
-abbrev pub invariant-loop-rest : goal.invariant-loop-rest
-invariant-loop-rest l =
-    (fold_pairs add_last (take l.len l.bytes) l.rest ≡ fold_pairs add_last [] l.self.digits.now)
-    × (2 * l.len + length l.rest ≤ 504) × (length l.bytes ≡ 252)
-
-abbrev pub decreases-loop-rest : goal.decreases-loop-rest
-decreases-loop-rest l = length l.rest
+abbrev pub invariant-loop-at : goal.invariant-loop-at
+invariant-loop-at l =
+    (fold_pairs add_last (take l.at l.bytes) (drop l.at l.pairs) ≡ fold_pairs add_last [] l.pairs) × (length l.bytes ≡ 252)
