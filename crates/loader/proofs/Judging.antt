@@ -15,7 +15,7 @@ use Rattle.loader.specs.declared.file.Reason.{Reason}
 use Rattle.loader.specs.declared.file.Reason.TheVariants.{TextSize, NotRising, NotWhole}
 use Rattle.loader.specs.declared.file.Refusal.{Refusal}
 use Rattle.loader.specs.Law.{IsTarget, start_of, end_of, HasData, Rising, Suits, Holds, Faultless, Refuses, Judges}
-use Rattle.loader.specs.Target.{target_of, width_for, bytes_per_address}
+use Rattle.loader.specs.Target.{bytes_per_address}
 use Rattle.loader.specs.Verdict.{byte_count, end_after, goes_on, at_last, suits_from, suits, refused_at, verdict_for, verdict}
 use Rattle.loader.proofs.Faults.{suits-refused, suits-accepted}
 
@@ -130,10 +130,6 @@ target-width target size w h = grind (arith, nat_tests)
 
 width-target : (target size w : ℕ) → bytes_per_address target size ≡ Some w → IsTarget target size w
 width-target target size w e = grind (arith, nat_tests)
-
--- the bytes of an address by the target that has the number
-pub width_by_number : (target size : ℕ) → width_for (target_of target size) ≡ bytes_per_address target size
-width_by_number target size = grind (arith, nat_tests)
 
 -- ---- the verdict
 

@@ -28,8 +28,3 @@ target_of number size =
     cond (number == 0) (Some Flash)
     (cond (number == 2) (Some (Boot size))
     (cond (number == 3) (Some (Data size)) None))
-
--- how many bytes an address of a target stands for, if there is a target
-abbrev pub width_for : Option Target → Option ℕ
-width_for None = None
-width_for (Some t) = bytes_per_address (number_of t) (size_of t)

@@ -88,7 +88,7 @@ pub fn check_for(text: &[u8], target: Target) -> Result<(), Refusal>
 
 // The same for callers in C, who tell the target by its number: 0 is flash, 2 and 3 are the EEPROMs of the
 // bootloader and of the data, of the size told.
-#[tactic(auto, using(crate::proofs::Judging::judged, crate::proofs::Judging::width_by_number))]
+#[tactic(auto, using(crate::proofs::Judging::judged))]
 pub fn check_file(text: &[u8], target: u8, size: u64) -> Result<(), Refusal>
     ensures answer { result ≡ verdict text.now target size }
     ensures law { Judges text.now target size result }
