@@ -13,6 +13,8 @@ mod reading;
 mod refusal;
 mod script;
 mod sealing;
+#[cfg(test)]
+mod tests;
 
 pub use crc::{CRC_START, crc_byte, crc_over};
 pub use crossing::{Crossing, uncross};
