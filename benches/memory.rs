@@ -6,8 +6,10 @@
 //!     memory size                the length of that input
 //!     memory time                all over that input, in turn: the best times, in the order above
 
+mod crc;
 mod random;
 
+use crc::{TABLES, crc_byte, eight_bits};
 use random::Random;
 use std::hint::black_box;
 use std::process::ExitCode;
@@ -25,34 +27,6 @@ fn measured_rattle(from: u16, bytes: &[u8]) -> u16 {
     unsafe { kochalluq_crc(from, bytes.as_ptr(), bytes.len()) }
 }
 
-/// Eight bits of a value. (With an `if` in place of the mask the compiler sees a CRC, and makes a table.)
-const fn eight_bits(value: u16) -> u16 {
-    let mut crc = value;
-    let mut bit = 0;
-    while bit < 8 {
-        crc = crc >> 1 ^ (0xA001 & (crc & 1).wrapping_neg());
-        bit += 1;
-    }
-    crc
-}
-
-/// For each byte its CRC from 0, with no byte of zero after it, with one, and so on.
-static TABLES: [[u16; 256]; 8] = {
-    let mut tables = [[0; 256]; 8];
-    let mut byte = 0;
-    while byte < 256 {
-        let mut crc = byte as u16;
-        let mut after = 0;
-        while after < 8 {
-            crc = eight_bits(crc);
-            tables[after][byte] = crc;
-            after += 1;
-        }
-        byte += 1;
-    }
-    tables
-};
-
 /// Plain Rust, bit by bit.
 #[inline(never)]
 #[unsafe(no_mangle)]
@@ -63,9 +37,7 @@ fn measured_bits(from: u16, bytes: &[u8]) -> u16 {
 }
 
 fn byte_by_byte(from: u16, bytes: &[u8]) -> u16 {
-    bytes.iter().fold(from, |crc, byte| {
-        crc >> 8 ^ TABLES[0][usize::from(crc as u8 ^ byte)]
-    })
+    bytes.iter().fold(from, |crc, byte| crc_byte(crc, *byte))
 }
 
 /// Plain Rust, one look-up a byte.
@@ -103,13 +75,6 @@ const WAYS: [(&str, Crc); 4] = [
     ("table", measured_table),
     ("bits", measured_bits),
 ];
-
-/// What the inputs are made with.
-impl Random {
-    fn bytes(&mut self, len: usize) -> Vec<u8> {
-        (0..len).map(|_| self.next() as u8).collect()
-    }
-}
 
 /// The input that is measured: one megabyte.
 fn large() -> Vec<u8> {

@@ -1,5 +1,8 @@
 //! A generator of pseudo-random numbers that gives the same ones in each run.
 
+// No program uses all of it.
+#![allow(dead_code)]
+
 pub struct Random(pub u64);
 
 impl Random {
@@ -8,5 +11,9 @@ impl Random {
         self.0 ^= self.0 >> 7;
         self.0 ^= self.0 << 17;
         self.0.wrapping_mul(0x2545_f491_4f6c_dd1d) >> 11
+    }
+
+    pub fn bytes(&mut self, len: usize) -> Vec<u8> {
+        (0..len).map(|_| self.next() as u8).collect()
     }
 }

@@ -1,19 +1,12 @@
--- Bytes that are read one by one, and every 128th address of a part. Assumes nothing.
-use Rattle.std.proofs.Common.{◌≡◌, ℕ, zero, suc, ◌+◌, ◌-◌, ◌*◌, ◌/◌, ◌%◌, ◌<◌, ◌≤◌, min, cond, List, [], ◌++◌, map, length, fold, get_or, take, drop, sym, refl, ap, ◌∙◌, append-nil, arith}
+-- Every 128th address of a part. Assumes nothing.
+use Rattle.std.proofs.Common.{◌≡◌, ℕ, zero, suc, ◌+◌, ◌-◌, ◌*◌, ◌%◌, ◌<◌, ◌≤◌, min, cond, List, [], ◌++◌, map, length, fold, get_or, refl, ap, ◌∙◌, append-nil, arith}
 use Rattle.std.specs.List.{range_with_len}
-use Rattle.std.proofs.lemmas.List.{ext_get_or, length-take-le, length-drop, get_or-take, get_or-drop}
 use Rattle.std.proofs.lemmas.List.FromFn.{fill_by_all, map-range_with_len_more}
 use Rattle.std.proofs.lemmas.Bool.{ne_eqb}
 use Rattle.std.proofs.lemmas.Bool.Decides.{nat_tests}
 use Rattle.std.proofs.iter.runs.Lists.{fold-append}
 use Rattle.memory.specs.Crc.{crc_byte, crc_from}
 use Rattle.memory.specs.Seal.{address_bytes, sampled}
-
--- bytes that are those from offset a on, one by one
-pub same_bytes : (xs ys : List ℕ) (a : ℕ) → a + length ys ≤ length xs → ((k : ℕ) → k < length ys → get_or ys k 0 ≡ get_or xs (a + k) 0) → ys ≡ take (length ys) (drop a xs)
-same_bytes xs ys a h at =
-    ext_get_or 0 ys _ (sym (length-take-le (length ys) (drop a xs) (omega (arith, length-drop a xs))))
-    (λ k l. at k l ∙ sym (get_or-take (length ys) (drop a xs) k 0 l ∙ get_or-drop a xs k 0))
 
 module _ (w : ℕ) (xs : List ℕ) where
   sampled_here : (a : ℕ) → a % 128 ≡ 0 → sampled w xs (suc a) ≡ sampled w xs a ++ address_bytes w xs a
@@ -52,7 +45,3 @@ module _ (w : ℕ) (xs : List ℕ) where
   crc_from-sampled n zs le lt at =
       let all : min (length zs * 128) n ≡ n = omega arith in
       ap (fold with_address 0xFFFF) (fill_by_all (λ k. k * 128) zs (length zs) 0 refl at) ∙ over_strides (length zs) n lt ∙ ap (λ k. crc_from 0xFFFF (sampled w xs k)) all
-
--- an address that is one of those that lie whole in a part
-pub whole-inside : (a n w : ℕ) → a < n / w → a * w + w ≤ n
-whole-inside a n w h = grind arith

@@ -15,10 +15,9 @@ pub fn seal<P: ReadablePart>(part: &P) -> u16
     ensures { result ≡ seal_of P.BYTES_PER_ADDRESS (P.contents part.now) }
 {
     let addresses = part.len() / P::BYTES_PER_ADDRESS;
-    (0..addresses).step_by(SAMPLE_STEP).fold(
-        CRC_START,
-        |crc, address| crc_of_address(part, address, crc),
-    )
+    (0..addresses.div_ceil(SAMPLE_STEP))
+        .map(|sample| sample * SAMPLE_STEP)
+        .fold(CRC_START, |crc, address| crc_of_address(part, address, crc))
 }
 
 // The CRC over the bytes of an address that lies whole in a part, continued.
@@ -27,9 +26,12 @@ fn crc_of_address<P: ReadablePart>(part: &P, address: usize, from: u16) -> u16
     ensures { result ≡ crc_from from (address_bytes P.BYTES_PER_ADDRESS (P.contents part.now) address) }
 {
     let start = address * P::BYTES_PER_ADDRESS;
-    (start..start + P::BYTES_PER_ADDRESS)
-        .map(|offset| byte_at(part, offset))
-        .fold(from, crc_byte)
+    let crc = crc_byte(from, byte_at(part, start));
+    if P::BYTES_PER_ADDRESS == 1 {
+        crc
+    } else {
+        crc_byte(crc, byte_at(part, start + 1))
+    }
 }
 
 // The seal that is stored in the last two bytes of a part, high byte first; a shorter part has none.
