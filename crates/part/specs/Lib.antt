@@ -1,0 +1,3 @@
+pub mod Options
+pub mod Stage
+pub mod Text

@@ -1,0 +1,9 @@
+pub mod Command
+pub mod Fault
+pub mod Hex
+pub mod Line
+pub mod Number
+pub mod Report
+pub mod Setup
+pub mod Text
+pub mod Words
