@@ -1,14 +1,10 @@
 -- What a put or a clear leaves. Assumes nothing.
-use Rattle.std.proofs.Common.{◌≡◌, ℕ, ◌<◌, List, length, arith}
+use Rattle.std.proofs.Common.{◌≡◌, ℕ, List, length, arith}
 use Rattle.std.proofs.lemmas.List.{length-set}
 use Rattle.std.proofs.lemmas.Bool.Decides.{nat_tests}
 use Rattle.memory.specs.Part.{Shape}
-use Rattle.memory.specs.Changes.{cleared_unit}
 use Rattle.memory.specs.Calls.{after_put, after_clear}
 use Rattle.memory.proofs.Clearing.{length-cleared}
-
-pub clear-done : (s : Shape) (xs : List ℕ) (u : ℕ) → u < s.units → after_clear s xs u ≡ cleared_unit s.unit_of u xs
-clear-done s xs u h = grind (arith, nat_tests)
 
 pub length-after_put : (s : Shape) (xs : List ℕ) (o v : ℕ) → length (after_put s xs o v) ≡ length xs
 length-after_put s xs o v = grind (arith, nat_tests, length-set)

@@ -1,5 +1,4 @@
 pub mod Answering
-pub mod Blanks
 pub mod Changing
 pub mod Clearing
 pub mod Crossings

@@ -1,13 +1,12 @@
 -- Equal sectors, counted from the highest offsets down. Assumes nothing.
-use Rattle.std.proofs.Common.{◌≡◌, ℕ, ◌+◌, ◌-◌, ◌/◌, ◌<◌, ◌≤◌, List, length, sym, ◌∙◌, mul-zero, arith}
+use Rattle.std.proofs.Common.{◌≡◌, ℕ, ◌+◌, ◌-◌, ◌/◌, ◌<◌, ◌≤◌, List, length, mul-zero, arith}
 use Rattle.std.proofs.lemmas.Nat.{div-mul-add, div_below}
 use Rattle.memory.specs.declared.layout.Layout.{Layout}
 use Rattle.memory.specs.Blank.{blanked}
 use Rattle.memory.specs.Calls.{after_clear}
 use Rattle.memory.specs.Eeprom.{eeprom_shape}
 use Rattle.memory.specs.Flash.{flash_length, flash_shape, sector_start}
-use Rattle.memory.proofs.Answering.{clear-done}
-use Rattle.memory.proofs.Blanks.{blanked_unit}
+use Rattle.memory.specs.Units.{run_cleared}
 
 module _ (l : Layout) (u : ℕ) (h : u < l.sectors) where
   sector_inside : sector_start l u + l.size ≤ flash_length l
@@ -23,10 +22,8 @@ module _ (l : Layout) (u : ℕ) (h : u < l.sectors) where
 pub sector_cleared : (l : Layout) (u : ℕ) (xs : List ℕ) → length xs ≡ flash_length l → u < l.sectors → after_clear (flash_shape l) xs u ≡ blanked (sector_start l u) (sector_start l u + l.size) xs
 sector_cleared l u xs long h =
     let i = sector_inside l u h in
-    clear-done (flash_shape l) xs u h
-    ∙ sym (blanked_unit (sector_start l u) (sector_start l u + l.size) xs (omega arith) (omega arith) (flash_shape l).unit_of u (in_sector l u h) (λ o lt e. only_sector l u h o (omega arith) e))
+    run_cleared (flash_shape l) u (sector_start l u) (sector_start l u + l.size) xs h (omega arith) (omega arith) (in_sector l u h) (λ o lt e. only_sector l u h o (omega arith) e)
 
 -- the same of all bytes of an EEPROM
 pub eeprom_cleared : (xs : List ℕ) (n u : ℕ) → n ≡ length xs → u < 1 → after_clear eeprom_shape xs u ≡ blanked 0 n xs
-eeprom_cleared xs n u long h =
-    clear-done eeprom_shape xs u h ∙ sym (blanked_unit 0 n xs (omega arith) (omega arith) (λ o. 0) u (λ o _ _. omega arith) (λ o l _. (omega arith, omega arith)))
+eeprom_cleared xs n u long h = run_cleared eeprom_shape u 0 n xs h (omega arith) (omega arith) (λ o _ _. omega arith) (λ o l _. (omega arith, omega arith))

@@ -10,3 +10,4 @@ pub mod Part
 pub mod Script
 pub mod Seal
 pub mod Shapes
+pub mod Units
