@@ -23,20 +23,20 @@ cross_cross n o = grind (arith, nat_tests)
 pub get_or-crossed : (xs : List ℕ) (o : ℕ) → o < length xs → slice_index (crossed_contents xs) o ≡ slice_index xs (crossed (length xs) o)
 get_or-crossed xs o h = get_or-map-range_with_len (λ k. slice_index xs (crossed (length xs) k)) 0 (length xs) o o 0 h (omega arith)
 
-contents-twice : (xs : List ℕ) → crossed_contents (crossed_contents xs) ≡ xs
+pub contents-twice : (xs : List ℕ) → crossed_contents (crossed_contents xs) ≡ xs
 contents-twice xs = ext_get_or 0 _ xs (grind (arith, length-crossed)) (λ k h. grind (arith, get_or-crossed, length-crossed, cross_inside, cross_cross))
 
 shape-twice : (n : ℕ) (s : Shape) → crossed_shape n (crossed_shape n s) ≡ s
 shape-twice n s = λ i. record { units = s.units; unit_of = λ o. s.unit_of (cross_cross n o i); takes = λ o. s.takes (cross_cross n o i) }
 
-pub same_crossed : (m n : ℕ) (s t : Shape) → m ≡ n → s ≡ t → crossed_shape m s ≡ crossed_shape n t
+same_crossed : (m n : ℕ) (s t : Shape) → m ≡ n → s ≡ t → crossed_shape m s ≡ crossed_shape n t
 same_crossed m n s t e h = λ i. crossed_shape (e i) (h i)
 
+pub shapes-twice : (xs : List ℕ) (s : Shape) → crossed_shape (length (crossed_contents xs)) (crossed_shape (length xs) s) ≡ s
+shapes-twice xs s = same_crossed _ (length xs) (crossed_shape (length xs) s) _ (length-crossed xs) refl ∙ shape-twice (length xs) s
+
 pub crossed-twice : CrossedTwice
-crossed-twice m = λ i. record { contents = contents-twice m.contents i; shape = shapes i }
-  where
-    shapes : crossed_shape (length (crossed_contents m.contents)) (crossed_shape (length m.contents) m.shape) ≡ m.shape
-    shapes = same_crossed _ (length m.contents) (crossed_shape (length m.contents) m.shape) _ (length-crossed m.contents) refl ∙ shape-twice (length m.contents) m.shape
+crossed-twice m = λ i. record { contents = contents-twice m.contents i; shape = shapes-twice m.contents m.shape i }
 
 -- the byte that is put at an offset is put at the offset below
 set-crossed : (xs : List ℕ) (o v : ℕ) → slice_set (crossed_contents xs) o v ≡ crossed_contents (slice_set xs (crossed (length xs) o) v)

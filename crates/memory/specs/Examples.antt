@@ -1,6 +1,9 @@
 -- Values written out, with what the definitions make of them.
-use Rattle.std.specs.Prelude.{◌≡◌, true, false, [], ◌∷◌, ◌++◌, replicate, Some, None}
+use Rattle.std.specs.Prelude.{◌≡◌, true, false, [], ◌∷◌, ◌++◌, replicate, Some, None, Ok, Err}
+use Rattle.memory.specs.declared.refusal.PartRefusal.TheVariants.{Outside, NotTaken, NoSuchUnit}
+use Rattle.memory.specs.Calls.{refusal_number, question_answer, clear_answer, after_put}
 use Rattle.memory.specs.Crc.{crc_from}
+use Rattle.memory.specs.Eeprom.{eeprom_shape}
 use Rattle.memory.specs.Crossing.{crossed_contents}
 use Rattle.memory.specs.Changes.{cleared_unit}
 use Rattle.memory.specs.Flash.{flash_takes, flash_shape, layout_of, word_layout}
@@ -32,6 +35,19 @@ pub record LayoutExamples : Type 0 where
   pub too_many_sectors : layout_of 128 33 1 ≡ record { sectors = 1; size = 0 }
   pub short_buffer : layout_of 127 4 16 ≡ record { sectors = 1; size = 0 }
   pub too_large : layout_of 2000000 1 524289 ≡ record { sectors = 1; size = 0 }
+
+-- the answers of a flash of one word, and the numbers of its refusals; of an EEPROM, which takes everything
+pub record CallExamples : Type 0 where
+  pub taken : question_answer (flash_shape (word_layout 1 1)) (0xF0 ∷ 0xFF ∷ []) 0 0x30 ≡ Ok true
+  pub not_taken : question_answer (flash_shape (word_layout 1 1)) (0xF0 ∷ 0xFF ∷ []) 0 0x31 ≡ Ok false
+  pub no_offset : question_answer (flash_shape (word_layout 1 1)) (0xF0 ∷ 0xFF ∷ []) 2 0x30 ≡ Err Outside
+  pub put : after_put (flash_shape (word_layout 1 1)) (0xF0 ∷ 0xFF ∷ []) 0 0x30 ≡ 0x30 ∷ 0xFF ∷ []
+  pub not_put : after_put (flash_shape (word_layout 1 1)) (0xF0 ∷ 0xFF ∷ []) 0 0x31 ≡ 0xF0 ∷ 0xFF ∷ []
+  pub no_unit : clear_answer (flash_shape (word_layout 1 1)) 1 ≡ Err NoSuchUnit
+  pub taken_by_eeprom : question_answer eeprom_shape (0xF0 ∷ []) 0 0x31 ≡ Ok true
+  pub outside_is_1 : refusal_number Outside ≡ 1
+  pub not_taken_is_2 : refusal_number NotTaken ≡ 2
+  pub no_such_unit_is_3 : refusal_number NoSuchUnit ≡ 3
 
 -- pairs change places, and a last byte without a pair stays
 pub record CrossingExamples : Type 0 where

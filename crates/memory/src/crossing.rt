@@ -28,13 +28,16 @@ fn across(len: usize, offset: usize) -> usize
     }
 }
 
-impl<P> Crossing<P> {
+impl<P: ReadablePart> Crossing<P> {
     pub fn new(below: P) -> Crossing<P>
-        ensures { result.below ≡ below }
+        ensures below { result.below ≡ below }
+        ensures contents { ⟦<Crossing<P> as ReadablePart>⟧.contents result ≡ crossed_contents (P.contents below) }
     {
         Crossing { below }
     }
+}
 
+impl<P> Crossing<P> {
     pub fn into_inner(self) -> P
         ensures { result ≡ self.below }
     {
@@ -88,6 +91,8 @@ impl<P: WritablePart> WritablePart for Crossing<P> {
 // The part below two crossings, which is what they mean: crossing twice is the part itself.
 pub fn uncross<P: WritablePart>(twice: Crossing<Crossing<P>>) -> P
     ensures answer { result ≡ twice.below.below }
+    ensures contents { ⟦<Crossing<Crossing<P>> as ReadablePart>⟧.contents twice ≡ P.contents result }
+    ensures shape { ⟦<Crossing<Crossing<P>> as WritablePart>⟧.shape twice ≡ P.shape result }
     ensures law { CrossedTwice }
 {
     twice.into_inner().into_inner()

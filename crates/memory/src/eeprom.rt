@@ -16,7 +16,8 @@ impl Eeprom {
     // An EEPROM over a buffer, whose bytes past the limit of a part are unused.
     pub fn new(buffer: Vec<u8>) -> Eeprom
         ensures len { vec_len result.cells.bytes ≡ min 1048576 (vec_len buffer) }
-        ensures bytes { result.cells.bytes.items ≡ eeprom_contents buffer.items }
+        ensures contents { ⟦<Eeprom as ReadablePart>⟧.contents result ≡ eeprom_contents buffer.items }
+        ensures shape { ⟦<Eeprom as WritablePart>⟧.shape result ≡ eeprom_shape }
     {
         Eeprom {
             cells: Cells::new(buffer, MAX_LENGTH),

@@ -31,7 +31,8 @@ impl Flash {
     // and one unit.
     pub fn new(buffer: Vec<u8>, sectors: usize, words: usize) -> Flash
         ensures layout { result.layout ≡ layout_of (vec_len buffer) sectors words }
-        ensures bytes { result.cells.bytes.items ≡ flash_contents (layout_of (vec_len buffer) sectors words) buffer.items }
+        ensures contents { ⟦<Flash as ReadablePart>⟧.contents result ≡ flash_contents (layout_of (vec_len buffer) sectors words) buffer.items }
+        ensures shape { ⟦<Flash as WritablePart>⟧.shape result ≡ flash_shape (layout_of (vec_len buffer) sectors words) }
     {
         let layout = Layout::of(buffer.len(), sectors, words);
         Flash {

@@ -13,8 +13,10 @@ The first line names the part, and each other one asks for an action:
   put O V        make the byte at offset O the value V
   clear U        make every byte of unit U 0xFF
 The word crossed at the end of the first line puts a lane crossing over the part. Each
-byte of the buffer is 0xFF at the start. Numbers are decimal, or hex behind 0x, and a
-value is at most 255. Empty lines, and lines that begin with #, are passed over.
+byte of the buffer is 0xFF at the start. A part has at most 1,048,576 bytes; a flash has
+1 to 32 sectors, and where they do not fit it has no bytes and one unit. Numbers are
+decimal, or hex behind 0x, and a value is at most 255. Empty lines, and lines that begin
+with #, are passed over.
 
 Output, a line for each action:
   two hex digits   the byte that was read
