@@ -10,9 +10,9 @@ use Rattle.script.specs.Text.{Draft, Meant, completed, goes_on, said_of, drafted
 
 -- the numbered line that a turn has is the one at its number
 pub record IsTurn (ls : List (List ℕ)) (n i : ℕ) (l : List ℕ) : Type 0 where
-  inside : n < length ls
-  number : i ≡ n
-  line : l ≡ get_or ls n l
+  pub inside : n < length ls
+  pub number : i ≡ n
+  pub line : l ≡ get_or ls n l
 
 pub numbered_turn : (ls : List (List ℕ)) (n i : ℕ) (l : List ℕ) → (n < length (enumerate_from 0 ls)) × ((i, l) ≡ get_or (enumerate_from 0 ls) n (i, l)) → IsTurn ls n i l
 numbered_turn ls n i l h =

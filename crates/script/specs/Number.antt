@@ -26,3 +26,12 @@ marked w None = numeral 10 w
 -- the number that a word writes: decimal digits, or hex digits behind 0x
 abbrev pub number_of : List ℕ → Option ℕ
 number_of w = marked w (behind (codes "0x") w)
+
+-- hex digits behind their mark, or without it
+abbrev pub unmarked : List ℕ → Option (List ℕ) → List ℕ
+unmarked w (Some ds) = ds
+unmarked w None = w
+
+-- the number that a word writes in hex digits, with 0x in front or not
+abbrev pub hex_number_of : List ℕ → Option ℕ
+hex_number_of w = numeral 16 (unmarked w (behind (codes "0x") w))

@@ -15,7 +15,7 @@ pub use command::read_action;
 pub use fault::{Fault, Refusal, ScriptError};
 pub use hex::Hex;
 pub use line::{NotText, read_words};
-pub use number::read_number;
+pub use number::{read_hex, read_hex_digits, read_number};
 pub use report::{Reply, play};
 pub use setup::{PartKind, Setup, read_setup};
 pub use text::{Script, read_script};

@@ -1,0 +1,10 @@
+pub mod Fault
+pub mod Frame
+pub mod Line
+pub mod Log
+pub mod Options
+pub mod Plan
+pub mod Replay
+pub mod Settings
+pub mod Stage
+pub mod Text
