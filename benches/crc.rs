@@ -35,3 +35,25 @@ pub static TABLES: [[u16; 256]; 8] = {
 pub fn crc_byte(crc: u16, byte: u8) -> u16 {
     crc >> 8 ^ TABLES[0][usize::from(crc as u8 ^ byte)]
 }
+
+/// The CRC with more bytes, by one look-up each.
+pub fn byte_by_byte(from: u16, bytes: &[u8]) -> u16 {
+    bytes.iter().fold(from, |crc, byte| crc_byte(crc, *byte))
+}
+
+/// The CRC with more bytes, eight a step.
+pub fn eight_by_eight(from: u16, bytes: &[u8]) -> u16 {
+    let (steps, rest) = bytes.as_chunks::<8>();
+    let crc = steps.iter().fold(from, |crc, step| {
+        let [low, high] = (crc ^ u16::from_le_bytes([step[0], step[1]])).to_le_bytes();
+        TABLES[7][usize::from(low)]
+            ^ TABLES[6][usize::from(high)]
+            ^ TABLES[5][usize::from(step[2])]
+            ^ TABLES[4][usize::from(step[3])]
+            ^ TABLES[3][usize::from(step[4])]
+            ^ TABLES[2][usize::from(step[5])]
+            ^ TABLES[1][usize::from(step[6])]
+            ^ TABLES[0][usize::from(step[7])]
+    });
+    byte_by_byte(crc, rest)
+}

@@ -9,7 +9,7 @@
 mod crc;
 mod random;
 
-use crc::{TABLES, crc_byte, eight_bits};
+use crc::{byte_by_byte, eight_bits, eight_by_eight};
 use random::Random;
 use std::hint::black_box;
 use std::process::ExitCode;
@@ -36,10 +36,6 @@ fn measured_bits(from: u16, bytes: &[u8]) -> u16 {
         .fold(from, |crc, byte| eight_bits(crc ^ u16::from(*byte)))
 }
 
-fn byte_by_byte(from: u16, bytes: &[u8]) -> u16 {
-    bytes.iter().fold(from, |crc, byte| crc_byte(crc, *byte))
-}
-
 /// Plain Rust, one look-up a byte.
 #[inline(never)]
 #[unsafe(no_mangle)]
@@ -51,19 +47,7 @@ fn measured_table(from: u16, bytes: &[u8]) -> u16 {
 #[inline(never)]
 #[unsafe(no_mangle)]
 fn measured_eight(from: u16, bytes: &[u8]) -> u16 {
-    let (steps, rest) = bytes.as_chunks::<8>();
-    let crc = steps.iter().fold(from, |crc, step| {
-        let [low, high] = (crc ^ u16::from_le_bytes([step[0], step[1]])).to_le_bytes();
-        TABLES[7][usize::from(low)]
-            ^ TABLES[6][usize::from(high)]
-            ^ TABLES[5][usize::from(step[2])]
-            ^ TABLES[4][usize::from(step[3])]
-            ^ TABLES[3][usize::from(step[4])]
-            ^ TABLES[2][usize::from(step[5])]
-            ^ TABLES[1][usize::from(step[6])]
-            ^ TABLES[0][usize::from(step[7])]
-    });
-    byte_by_byte(crc, rest)
+    eight_by_eight(from, bytes)
 }
 
 type Crc = fn(u16, &[u8]) -> u16;

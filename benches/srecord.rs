@@ -36,21 +36,6 @@ fn measured_rust(text: &[u8], target: u8, size: u64) -> u8 {
     }
 }
 
-/// What the texts are made with.
-impl Random {
-    fn below(&mut self, n: usize) -> usize {
-        (self.next() % n as u64) as usize
-    }
-
-    fn one_in(&mut self, n: usize) -> bool {
-        self.below(n) == 0
-    }
-
-    fn byte(&mut self) -> u8 {
-        self.below(256) as u8
-    }
-}
-
 /// A line to be written: its type, address and data.
 #[derive(Clone)]
 struct Line {

@@ -1,14 +1,18 @@
 #![tactic(auto)]
 
-// The file check, the CRC and the seal for callers in C and in Rust.
+// The file check, the CRC, the seal and the bootloader for callers in C and in Rust.
 ghost use Rattle.std.specs.Prelude.{◌≡◌};
 ghost use Rattle.loader.specs.Verdict.{outcome_of, verdict};
 
 mod crc;
+mod replay;
 mod seal;
+#[cfg(test)]
+mod tests;
 
 pub use crc::kochalluq_crc;
 use loader::{check_file, outcome};
+pub use replay::{Plan, kochalluq_replay};
 pub use seal::{kochalluq_crossed_seal, kochalluq_seal};
 
 // The number of the outcome, 0 where the text is accepted. In C the text is a pointer and a length, and
