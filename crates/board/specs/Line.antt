@@ -5,6 +5,7 @@ use Rattle.std.specs.Str.{bytes_eq}
 use Rattle.script.specs.Number.{number_of}
 use Rattle.script.specs.Words.{missing, number_taken, ended}
 use Rattle.script.specs.Line.{line_words}
+use Rattle.bootloader.specs.Events.{Event}
 use Rattle.board.specs.declared.line.Said.{Said}
 use Rattle.board.specs.declared.line.Said.TheVariants as lent
 use Rattle.board.specs.declared.plan.Memory.{Memory}
@@ -12,7 +13,7 @@ use Rattle.board.specs.declared.plan.Plan.{Plan}
 use Rattle.board.specs.Plan.{memory_at}
 use Rattle.board.specs.Fault.{WrongLine, not_text, wrong_word, no_memory, not_contents, after, reads, finds}
 use Rattle.board.specs.Frame.{bytes_of, frame_of}
-use Rattle.board.specs.Replay.{Happening, happening_by}
+use Rattle.board.specs.Replay.{event_by}
 use Rattle.board.specs.Settings.{board_of}
 
 -- what a line says: nothing, what the board is made of, what a memory shows at the start, ticks, or a frame
@@ -21,7 +22,7 @@ pub data Saying : Type 0 where
   board : Plan → Saying
   start : Memory → List ℕ → Saying
   ticks : ℕ → Saying
-  happens : Happening → Saying
+  happens : Event → Saying
 
 -- something, if no word is left
 abbrev pub alone : {A : Type 0} → List (List ℕ) → A → Result A WrongLine
@@ -83,4 +84,4 @@ saying_by lent.Nothing = nothing
 saying_by (lent.Board p) = board p
 saying_by (lent.Start m bytes) = start m bytes.items
 saying_by (lent.Ticks n) = ticks n
-saying_by (lent.Frame e) = happens (happening_by e)
+saying_by (lent.Frame e) = happens (event_by e)

@@ -1,6 +1,7 @@
 -- A log, line by line.
 use Rattle.std.specs.Prelude.{ℕ, ◌+◌, ◌-◌, Bool, true, false, cond, List, [], ◌∷◌, ◌++◌, length, map, replicate, Some, None, Ok, Err, Option, Result, is_some, unwrap_or, nat_le, nat_lt}
 use Rattle.script.specs.Line.{lines_of}
+use Rattle.bootloader.specs.Events.{Event, tick}
 use Rattle.board.specs.declared.draft.Draft as code
 use Rattle.board.specs.declared.draft.LogError.{LogError}
 use Rattle.board.specs.declared.draft.LogError.TheVariants.{Refused, Memory}
@@ -9,7 +10,7 @@ use Rattle.board.specs.declared.plan.Memory as space
 use Rattle.board.specs.declared.plan.Plan.{Plan}
 use Rattle.board.specs.Plan.{length_of, bench}
 use Rattle.board.specs.Fault.{WrongLine, too_long, late, second_board, told_twice, too_many_ticks, after, wrong_by}
-use Rattle.board.specs.Replay.{Happening, tick, happening_by}
+use Rattle.board.specs.Replay.{event_by}
 use Rattle.board.specs.Line.{Saying, nothing, board, start, ticks, happens, said_of}
 use Rattle.board.specs.Stage.{Told, Meant, is_memory, told_by}
 
@@ -25,11 +26,11 @@ pub record Draft : Type 0 where
   pub starts : List Told
   pub begun : Bool
   pub left : ℕ
-  pub happenings : List Happening
+  pub events : List Event
 
 -- no line was read
 abbrev pub blank : Draft
-blank = record { plan = None; starts = []; begun = false; left = 1000000; happenings = [] }
+blank = record { plan = None; starts = []; begun = false; left = 1000000; events = [] }
 
 abbrev pub at_line : {A : Type 0} → ℕ → WrongLine → Result A WrongLog
 at_line n w = Err (record { number = n; wrong = w })
@@ -66,7 +67,7 @@ with_start n d m bytes =
 -- with so many ticks, if they are not too many
 abbrev pub with_ticks : ℕ → Draft → ℕ → Result Draft WrongLog
 with_ticks n d t =
-    cond (nat_le t d.left) (Ok (record d { left = d.left - t; happenings = d.happenings ++ replicate t tick })) (at_line n too_many_ticks)
+    cond (nat_le t d.left) (Ok (record d { left = d.left - t; events = d.events ++ replicate t tick })) (at_line n too_many_ticks)
 
 -- with what a line says, which has the number n
 abbrev pub added : ℕ → Draft → Saying → Result Draft WrongLog
@@ -74,7 +75,7 @@ added n d nothing = Ok d
 added n d (board p) = with_plan n d p
 added n d (start m bytes) = with_start n d m bytes
 added n d (ticks t) = after (begin d) (λ e. with_ticks n e t)
-added n d (happens h) = after (begin d) (λ e. Ok (record e { happenings = e.happenings ++ (h ∷ []) }))
+added n d (happens h) = after (begin d) (λ e. Ok (record e { events = e.events ++ (h ∷ []) }))
 
 -- what follows a line that is right, or the line and what is wrong with it
 abbrev pub goes_on : {A : Type 0} → ℕ → Result Saying WrongLine → (Saying → Result A WrongLog) → Result A WrongLog
@@ -83,7 +84,7 @@ goes_on n (Err e) go = at_line n e
 
 -- at the end of the lines the contents at the start are looked at, where no frame or tick was read
 abbrev pub completed : Draft → Result Meant WrongLog
-completed d = after (begin d) (λ e. Ok (record { plan = plan_so_far e; starts = e.starts; happenings = e.happenings }))
+completed d = after (begin d) (λ e. Ok (record { plan = plan_so_far e; starts = e.starts; events = e.events }))
 
 -- lines that follow n others, which have said d
 unfoldable pub log_from : ℕ → Draft → List (List ℕ) → Result Meant WrongLog
@@ -96,7 +97,7 @@ log_of text = log_from 0 blank (lines_of text)
 
 -- a draft that the code has
 abbrev pub draft_by : code.Draft → Draft
-draft_by d = record { plan = d.plan; starts = map told_by d.starts.items; begun = d.begun; left = d.left; happenings = map happening_by d.events.items }
+draft_by d = record { plan = d.plan; starts = map told_by d.starts.items; begun = d.begun; left = d.left; events = map event_by d.happenings.items }
 
 -- a refusal that the code answered
 abbrev pub refusal_by : Refusal → WrongLog

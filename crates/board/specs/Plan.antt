@@ -1,6 +1,7 @@
 -- What a board is made of, and what its memories hold at the start.
 use Rattle.std.specs.Prelude.{ℕ, ◌*◌, Bool, cond, ◌&&◌, Some, None, Option, ◌==◌, nat_le}
 use Rattle.bootloader.specs.declared.state.Wait.TheVariants.{TwoSeconds}
+use Rattle.geometry.specs.declared.rows.Row.{Row}
 use Rattle.board.specs.declared.plan.Memory.{Memory}
 use Rattle.board.specs.declared.plan.Memory.TheVariants.{Flash, Boot, Data}
 use Rattle.board.specs.declared.plan.Plan.{Plan}
@@ -39,3 +40,7 @@ bench = record {
   boot = 64;
   eeprom = 64;
 }
+
+-- where the flash of the bench board begins, and its sectors
+abbrev pub bench_row : Row
+bench_row = record { base = bench.setup.base; sectors = bench.sectors; words = bench.words }

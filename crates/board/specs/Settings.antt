@@ -1,15 +1,17 @@
 -- The line that says what the board is made of.
-use Rattle.std.specs.Prelude.{ℕ, cond, List, [], ◌∷◌, Some, None, Ok, Err, codes, Option, Result, ◌==◌, unwrap_or}
+use Rattle.std.specs.Prelude.{ℕ, cond, List, [], ◌∷◌, Some, None, Ok, Err, codes, Option, Result, ◌==◌, unwrap_or, option_and_then}
 use Rattle.std.specs.Result.{result_map_both}
 use Rattle.std.specs.Str.{bytes_eq}
 use Rattle.bootloader.specs.declared.state.Wait.{Wait}
 use Rattle.bootloader.specs.declared.state.Wait.TheVariants.{TwoSeconds, SixteenSeconds}
+use Rattle.geometry.specs.declared.rows.Row.{Row}
+use Rattle.geometry.specs.Rows.{row_of}
 use Rattle.script.specs.Number.{number_of, hex_number_of}
 use Rattle.board.specs.declared.plan.Plan.{Plan}
 use Rattle.board.specs.declared.settings.Settings.{Settings}
 use Rattle.board.specs.Fault.{WrongLine, no_setting, not_value, set_twice, no_flash, after, finds}
 use Rattle.board.specs.Frame.{cut_at, limited}
-use Rattle.board.specs.Plan.{has_flash, bench}
+use Rattle.board.specs.Plan.{has_flash, bench, bench_row}
 
 -- nothing is set
 abbrev pub unset : Settings
@@ -58,18 +60,26 @@ unfoldable pub set_all : Settings → List (List ℕ) → Result Settings WrongL
 set_all s [] = Ok s
 set_all s (w ∷ ws) = after (set_with s w) (λ t. set_all t ws)
 
--- the board of settings; what is not set is as on the bench
+-- the row of the part ID that is set, if it is listed
+abbrev pub row_set : Settings → Option Row
+row_set s = option_and_then row_of s.part
+
+-- where the flash begins and its sectors, as far as they are not set: by that row, or else as on the bench
+abbrev pub row_for : Settings → Row
+row_for s = unwrap_or (row_set s) bench_row
+
+-- the board of settings; what is not set is by the part ID, or else as on the bench
 abbrev pub planned : Settings → Plan
 planned s = record {
   setup = record {
-    base = unwrap_or s.base bench.setup.base;
+    base = unwrap_or s.base (row_for s).base;
     part_id = unwrap_or s.part bench.setup.part_id;
     major = unwrap_or s.major bench.setup.major;
     minor = unwrap_or s.minor bench.setup.minor;
     wait = unwrap_or s.wait bench.setup.wait;
   };
-  sectors = unwrap_or s.sectors bench.sectors;
-  words = unwrap_or s.words bench.words;
+  sectors = unwrap_or s.sectors (row_for s).sectors;
+  words = unwrap_or s.words (row_for s).words;
   boot = unwrap_or s.boot bench.boot;
   eeprom = unwrap_or s.eeprom bench.eeprom;
 }

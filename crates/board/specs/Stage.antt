@@ -5,13 +5,14 @@ use Rattle.memory.specs.Eeprom.{eeprom_shape, eeprom_contents}
 use Rattle.memory.specs.Flash.{layout_of, flash_shape, flash_contents}
 use Rattle.bootloader.specs.Memories.{memory_of}
 use Rattle.bootloader.specs.Board.{Board, fresh_board}
+use Rattle.bootloader.specs.Events.{Event}
 use Rattle.board.specs.declared.draft.Log.{Log}
 use Rattle.board.specs.declared.draft.Start.{Start}
 use Rattle.board.specs.declared.plan.Memory.{Memory}
 use Rattle.board.specs.declared.plan.Memory.TheVariants.{Flash, Boot, Data}
 use Rattle.board.specs.declared.plan.Plan.{Plan}
 use Rattle.board.specs.Plan.{length_of}
-use Rattle.board.specs.Replay.{Happening, happening_by, report_of}
+use Rattle.board.specs.Replay.{event_by, report_of}
 
 -- what a memory is told to show at the start, by the line of a number
 pub record Told : Type 0 where
@@ -23,7 +24,7 @@ pub record Told : Type 0 where
 pub record Meant : Type 0 where
   pub plan : Plan
   pub starts : List Told
-  pub happenings : List Happening
+  pub events : List Event
 
 -- two memories are the same
 abbrev pub is_memory : Memory → Memory → Bool
@@ -62,11 +63,11 @@ board_at_start g =
 
 -- what is printed of a log
 abbrev pub replayed : Meant → List ℕ
-replayed g = report_of (board_at_start g) g.happenings
+replayed g = report_of (board_at_start g) g.events
 
 -- what the code was handed
 abbrev pub told_by : Start → Told
 told_by s = record { line = s.line; memory = s.memory; bytes = s.bytes.items }
 
 abbrev pub meant_by : Log → Meant
-meant_by g = record { plan = g.plan; starts = map told_by g.starts.items; happenings = map happening_by g.events.items }
+meant_by g = record { plan = g.plan; starts = map told_by g.starts.items; events = map event_by g.happenings.items }

@@ -2,14 +2,15 @@
 ghost use Rattle.std.specs.Prelude.{◌≡◌, ◌∷◌, [], ◌++◌, IfOk, IfSome, Ok, Some, map, replicate};
 ghost use Rattle.board.specs.Line.{saying_by};
 ghost use Rattle.board.specs.Log.{blank, plan_so_far, added, with_plan, with_start, with_ticks, begin, completed, is_told, checked, log_of, draft_by, log_by};
-ghost use Rattle.board.specs.Replay.{happening_by, tick};
+ghost use Rattle.board.specs.Replay.{event_by};
+ghost use Rattle.bootloader.specs.Events.{tick};
 ghost use Rattle.board.specs.Stage.{told_by, meant_by};
 ghost use Rattle.board.specs.declared.draft.LogError.TheVariants.{Memory, Refused};
 
 use crate::fault::{Fault, LineError, Refusal};
+use crate::happening::Happening;
 use crate::line::{Said, read_line};
 use crate::plan::{BENCH, Memory, Plan};
-use bootloader::Event;
 use std::alloc::{AllocError, Global};
 
 // The most ticks of a log.
@@ -28,7 +29,7 @@ pub struct Start {
 pub struct Log {
     pub plan: Plan,
     pub starts: Vec<Start>,
-    pub events: Vec<Event>,
+    pub happenings: Vec<Happening>,
 }
 
 // What the lines so far have said.
@@ -40,7 +41,7 @@ struct Draft {
     begun: bool,
     // how many ticks more a log can have
     left: usize,
-    events: Vec<Event>,
+    happenings: Vec<Happening>,
 }
 
 // Why there is no log.
@@ -83,7 +84,7 @@ impl Draft {
             starts: Vec::new(heap),
             begun: false,
             left: MAX_TICKS,
-            events: Vec::new(heap),
+            happenings: Vec::new(heap),
         }
     }
 
@@ -103,7 +104,7 @@ impl Draft {
             Said::Board(plan) => self.with_plan(number, plan),
             Said::Start { memory, bytes } => self.with_start(number, memory, bytes),
             Said::Ticks(ticks) => self.begin()?.with_ticks(number, ticks),
-            Said::Frame(event) => self.begin()?.with_event(event),
+            Said::Frame(frame) => self.begin()?.with_frame(frame),
         }
     }
 
@@ -152,14 +153,14 @@ impl Draft {
             return Err(refused(number, Fault::TooManyTicks));
         };
         self.left = left;
-        push_ticks(&mut self.events, ticks)?;
+        push_ticks(&mut self.happenings, ticks)?;
         Ok(self)
     }
 
-    fn with_event<'a>(mut self, event: Event) -> Result<Draft, LogError<'a>>
-        ensures { IfSome (log_by draft_by result) (λ r. r ≡ Ok (record (draft_by self) { happenings = (draft_by self).happenings ++ (happening_by event ∷ []) })) }
+    fn with_frame<'a>(mut self, frame: Happening) -> Result<Draft, LogError<'a>>
+        ensures { IfSome (log_by draft_by result) (λ r. r ≡ Ok (record (draft_by self) { events = (draft_by self).events ++ (event_by frame ∷ []) })) }
     {
-        self.events.push(event).map_err(AllocError::from)?;
+        self.happenings.push(frame).map_err(AllocError::from)?;
         Ok(self)
     }
 
@@ -182,7 +183,7 @@ impl Draft {
         Ok(Log {
             plan: draft.plan(),
             starts: draft.starts,
-            events: draft.events,
+            happenings: draft.happenings,
         })
     }
 }
@@ -214,11 +215,11 @@ fn check_starts<'a>(plan: Plan, starts: &[Start]) -> Result<(), LogError<'a>>
 }
 
 // Adds so many ticks.
-fn push_ticks(events: &mut Vec<Event>, ticks: usize) -> Result<(), AllocError>
-    ensures { IfOk result (λ _. map happening_by events.new.items ≡ map happening_by events.old.items ++ replicate ticks tick) }
+fn push_ticks(happenings: &mut Vec<Happening>, ticks: usize) -> Result<(), AllocError>
+    ensures { IfOk result (λ _. map event_by happenings.new.items ≡ map event_by happenings.old.items ++ replicate ticks tick) }
 {
     for _ in 0..ticks {
-        events.push(Event::Tick).map_err(AllocError::from)?;
+        happenings.push(Happening::Tick).map_err(AllocError::from)?;
     }
     Ok(())
 }

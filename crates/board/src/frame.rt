@@ -3,10 +3,10 @@ ghost use Rattle.std.specs.Prelude.{◌≡◌, ◌<◌, IfOk, IfSome};
 ghost use Rattle.std.specs.Option.{option_map};
 ghost use Rattle.board.specs.Fault.{line_by};
 ghost use Rattle.board.specs.Frame.{cut_at, id_of, bytes_of, frame_of};
-ghost use Rattle.board.specs.Replay.{happening_by};
+ghost use Rattle.board.specs.Replay.{event_by};
 
 use crate::fault::{Fault, LineError};
-use bootloader::Event;
+use crate::happening::Happening;
 use hex::FromHexError;
 use script::read_hex_digits;
 use std::alloc::{AllocError, Global};
@@ -18,8 +18,8 @@ const MAX_ID: u32 = 0x1FFF_FFFF;
 const MAX_BYTES: usize = 64;
 
 // The frame that a word writes as ID#DATA.
-pub fn read_frame<'a>(heap: Global, word: &'a str) -> Result<Event, LineError<'a>>
-    ensures { IfSome (line_by happening_by result) (λ r. r ≡ frame_of word.now) }
+pub fn read_frame<'a>(heap: Global, word: &'a str) -> Result<Happening, LineError<'a>>
+    ensures { IfSome (line_by event_by result) (λ r. r ≡ frame_of word.now) }
 {
     let (id, digits) = cut_at(word, '#').ok_or(Fault::NoCommand(word))?;
     let id = read_id(id).ok_or(Fault::NotId(word))?;
@@ -33,7 +33,7 @@ pub fn read_frame<'a>(heap: Global, word: &'a str) -> Result<Event, LineError<'a
     if bytes.len() > MAX_BYTES {
         return Err(LineError::Wrong(Fault::NotBytes(word)));
     }
-    Ok(Event::Frame { id, bytes })
+    Ok(Happening::Frame { id, bytes })
 }
 
 // What stands before the first character of a kind, and behind it.

@@ -17,7 +17,8 @@ Numbers are decimal, or hex behind 0x. Empty lines, and lines that begin with #,
 passed over. The names of a board, with what counts where one is not given:
   base=1000               address at which the flash begins, in hex digits
   sectors=4 words=16      sectors of the flash, and words of each
-  part=0001               part ID, in hex digits
+  part=0001               part ID, in hex digits; that of a listed board sets base,
+                          sectors and words where they are not given
   boot=64 data=64         bytes of the two EEPROMs
   major=1 minor=0         revision of the bootloader
   wait=2000               milliseconds until the application is started, or 16000

@@ -6,9 +6,9 @@ ghost use Rattle.board.specs.Line.{is_time, ticks_of, start_of, frame_alone, fra
 
 use crate::fault::{Fault, LineError};
 use crate::frame::{read_bytes, read_frame};
+use crate::happening::Happening;
 use crate::plan::{Memory, Plan};
 use crate::settings::read_board;
-use bootloader::Event;
 use script::{WordFault, Words, read_number, read_words};
 use std::alloc::Global;
 
@@ -30,7 +30,7 @@ pub enum Said {
     Board(Plan),
     Start { memory: Memory, bytes: Vec<u8> },
     Ticks(usize),
-    Frame(Event),
+    Frame(Happening),
 }
 
 pub fn read_line<'a>(heap: Global, line: &'a [u8]) -> Result<Said, LineError<'a>>
@@ -94,7 +94,7 @@ fn read_dumped<'a>(heap: Global, mut words: Words<'a>) -> Result<Said, LineError
 fn read_alone<'a>(heap: Global, frame: &'a str, words: Words<'a>) -> Result<Said, LineError<'a>>
     ensures { IfSome (line_by saying_by result) (λ r. r ≡ frame_alone frame.now (words_left words.entry)) }
 {
-    let event = read_frame(heap, frame)?;
+    let frame = read_frame(heap, frame)?;
     words.finish()?;
-    Ok(Said::Frame(event))
+    Ok(Said::Frame(frame))
 }

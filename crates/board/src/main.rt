@@ -5,6 +5,7 @@ mod draft;
 mod failure;
 mod fault;
 mod frame;
+mod happening;
 mod help;
 mod line;
 mod options;

@@ -3,6 +3,7 @@ ghost use Rattle.std.specs.Prelude.{◌≡◌};
 ghost use Rattle.board.specs.Plan.{memory_at, space_number, length_of, has_flash};
 
 use bootloader::{Setup, Wait};
+use geometry::Row;
 use memory::{MAX_LENGTH, MAX_UNITS};
 
 // A memory of the board.
@@ -26,17 +27,24 @@ pub struct Plan {
     pub eeprom: usize,
 }
 
+// Where the flash of the bench board begins, and its sectors.
+pub const BENCH_ROW: Row = Row {
+    base: 0x1000,
+    sectors: 4,
+    words: 16,
+};
+
 // The bench board, which counts where a log says nothing else.
 pub const BENCH: Plan = Plan {
     setup: Setup {
-        base: 0x1000,
+        base: BENCH_ROW.base,
         part_id: 0x0001,
         major: 1,
         minor: 0,
         wait: Wait::TwoSeconds,
     },
-    sectors: 4,
-    words: 16,
+    sectors: BENCH_ROW.sectors as usize,
+    words: BENCH_ROW.words as usize,
     boot: 64,
     eeprom: 64,
 };

@@ -1,12 +1,14 @@
 // A log, replayed on its board.
 ghost use Rattle.std.specs.Prelude.{◌≡◌, ◌++◌, IfOk, string_bytes};
+ghost use Rattle.bootloader.specs.BusLog.{event_of, events_of, replies_of};
 ghost use Rattle.board.specs.Stage.{meant_by, replayed};
-ghost use Rattle.board.specs.Replay.{happening_by, frame_line, memory_line, ending, state_name, rows};
+ghost use Rattle.board.specs.Replay.{frame_line, memory_line, ending, state_name, rows};
 
 use crate::draft::Log;
+use crate::happening::entries_of;
 use crate::plan::Memory;
 use crate::stage::{eeprom_for, flash_for};
-use bootloader::{Bootloader, Device, Event, Replayed, State, replay};
+use bootloader::{Bootloader, Device, Entry, Event, State, replay};
 use memory::{ReadablePart, WritablePart, read_all};
 use script::Hex;
 use std::alloc::{AllocError, Global};
@@ -18,22 +20,22 @@ pub fn replay_log(heap: Global, log: &Log) -> Result<String, AllocError>
     let flash = flash_for(heap, log)?;
     let boot = eeprom_for(heap, log, Memory::Boot)?;
     let data = eeprom_for(heap, log, Memory::Data)?;
-    let events = log.events.as_slice();
-    let replayed = replay(heap, log.plan.setup, flash, boot, data, events)?;
-    report_on(heap, &replayed, events)
+    let mut entries = entries_of(heap, log.happenings.as_slice())?;
+    let entries = entries.as_mut_slice();
+    let board = replay(log.plan.setup, flash, boot, data, entries);
+    report_on(heap, &board, entries)
 }
 
 // A line for each frame, and then the state and the memories that are left.
-fn report_on<F: WritablePart + Drop, B: WritablePart + Drop, E: WritablePart + Drop>(
+fn report_on<F: WritablePart, B: WritablePart, E: WritablePart>(
     heap: Global,
-    replayed: &Replayed<F, B, E>,
-    events: &[Event],
+    board: &Bootloader<F, B, E>,
+    entries: &[Entry<'_>],
 ) -> Result<String, AllocError>
     ensures { IfOk result (λ t. string_bytes t
-        ≡ rows events.now replayed.now.replies.items ++ ending (⟦<Bootloader<F, B, E> as Device>⟧.board replayed.now.board)) }
+        ≡ rows (events_of entries.now) (replies_of entries.now) ++ ending (⟦<Bootloader<F, B, E> as Device>⟧.board board.now)) }
 {
-    let mut report = report_frames(heap, events, replayed.replies.as_slice())?;
-    let board = &replayed.board;
+    let mut report = report_frames(heap, entries)?;
     let state = state_name(board.state());
     writeln!(report, "S\t{state}")?;
     report_memory(heap, &mut report, Memory::Flash, board.flash())?;
@@ -43,33 +45,26 @@ fn report_on<F: WritablePart + Drop, B: WritablePart + Drop, E: WritablePart + D
 }
 
 // A line for each frame, with the reply to it.
-fn report_frames(
-    heap: Global,
-    events: &[Event],
-    replies: &[Option<[u8; 8]>],
-) -> Result<String, AllocError>
-    ensures { IfOk result (λ t. string_bytes t ≡ rows events.now replies.now) }
+fn report_frames(heap: Global, entries: &[Entry<'_>]) -> Result<String, AllocError>
+    ensures { IfOk result (λ t. string_bytes t ≡ rows (events_of entries.now) (replies_of entries.now)) }
 {
     let mut report = String::new(heap);
-    for (event, reply) in events.iter().zip(replies.iter()) {
-        report_event(&mut report, event, *reply)?;
+    for entry in entries {
+        report_entry(&mut report, *entry)?;
     }
     Ok(report)
 }
 
 // Adds a line for a frame, and nothing for a tick.
-fn report_event(
-    report: &mut String,
-    event: &Event,
-    reply: Option<[u8; 8]>,
-) -> Result<(), AllocError>
-    ensures { IfOk result (λ _. string_bytes report.new ≡ string_bytes report.old ++ frame_line (happening_by event.now) reply) }
+fn report_entry(report: &mut String, entry: Entry<'_>) -> Result<(), AllocError>
+    ensures { IfOk result (λ _. string_bytes report.new
+        ≡ string_bytes report.old ++ frame_line (event_of entry.entry.event) entry.entry.reply) }
 {
-    let Event::Frame { bytes, .. } = event else {
+    let Event::Frame { bytes, .. } = entry.event else {
         return Ok(());
     };
-    let frame = Hex(bytes.as_slice());
-    match reply {
+    let frame = Hex(bytes);
+    match entry.reply {
         Some(reply) => {
             let reply = Hex(&reply);
             writeln!(report, "F\t{frame}\t{reply}")?;

@@ -4,12 +4,13 @@ ghost use Rattle.script.specs.Number.{number_of, hex_number_of};
 ghost use Rattle.script.specs.Words.{words_left};
 ghost use Rattle.board.specs.Fault.{read_by};
 ghost use Rattle.board.specs.Frame.{limited};
-ghost use Rattle.board.specs.Settings.{wait_of, once, named, set_with, set_all, unset, plan_of, board_of};
+ghost use Rattle.board.specs.Settings.{wait_of, once, named, set_with, set_all, unset, row_set, plan_of, board_of};
 
 use crate::fault::Fault;
 use crate::frame::cut_at;
-use crate::plan::{BENCH, Plan};
+use crate::plan::{BENCH, BENCH_ROW, Plan};
 use bootloader::{Setup, Wait};
+use geometry::{Row, row_of};
 use memory::MAX_LENGTH;
 use script::{Words, read_hex, read_number};
 
@@ -59,7 +60,7 @@ pub struct Settings {
     wait: Option<Wait>,
 }
 
-// The board of these settings; what is not set is as on the bench.
+// The board of these settings; what is not set is by the part ID, or else as on the bench.
 pub fn read_board(words: Words<'_>) -> Result<Plan, Fault<'_>>
     ensures { read_by result ≡ board_of (words_left words.entry) }
 {
@@ -133,12 +134,20 @@ impl Settings {
         }
     }
 
+    // The row of the part ID that is set, if it is listed.
+    fn row(self) -> Option<Row>
+        ensures answer { result ≡ row_set self }
+    {
+        row_of(self.part?)
+    }
+
     // The board, if it has a flash.
     fn plan<'a>(self) -> Result<Plan, Fault<'a>>
         ensures { read_by result ≡ plan_of self }
     {
+        let row = self.row().unwrap_or(BENCH_ROW);
         let setup = Setup {
-            base: self.base.unwrap_or(BENCH.setup.base),
+            base: self.base.unwrap_or(row.base),
             part_id: self.part.unwrap_or(BENCH.setup.part_id),
             major: self.major.unwrap_or(BENCH.setup.major),
             minor: self.minor.unwrap_or(BENCH.setup.minor),
@@ -146,8 +155,8 @@ impl Settings {
         };
         let plan = Plan {
             setup,
-            sectors: self.sectors.unwrap_or(BENCH.sectors),
-            words: self.words.unwrap_or(BENCH.words),
+            sectors: self.sectors.unwrap_or(row.sectors as usize),
+            words: self.words.unwrap_or(row.words as usize),
             boot: self.boot.unwrap_or(BENCH.boot),
             eeprom: self.eeprom.unwrap_or(BENCH.eeprom),
         };

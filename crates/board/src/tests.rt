@@ -1,6 +1,8 @@
 // Logs with what is printed of them, at the edges of each refusal and of its precedence over the next one, and
 // malformed logs with what is told of them.
+use crate::settings::read_board;
 use crate::text::replay_text;
+use script::read_words;
 use std::test::Fail;
 
 #[test]
@@ -9,6 +11,36 @@ fn logs(rt: HostRuntime) -> Result<(), Fail> {
         let report = replay_text(rt.alloc(), log.as_bytes()).map_err(|_| "refused")?;
         assert_eq!(rt; report.as_str(), *output, "log {place}");
     }
+    Ok(())
+}
+
+// Where the flash of a board begins, its sectors, and the words of each.
+#[test]
+fn flashes(rt: HostRuntime) -> Result<(), Fail> {
+    let cases = [
+        ("", 0x1000, 4, 16),
+        ("part=1", 0x1000, 4, 16),
+        ("part=9B", 0x1000, 4, 16),
+        ("part=9F", 0x3D_8000, 8, 0x4000),
+        ("part=EF", 0x30_0000, 8, 0x8000),
+        ("part=EF base=0", 0, 8, 0x8000),
+        ("sectors=32 part=2C", 0x3F_4000, 32, 0x1000),
+        ("part=2C words=1", 0x3F_4000, 4, 1),
+    ];
+    for (text, base, sectors, count) in cases {
+        let words = read_words(text.as_bytes()).map_err(|_| "no text")?;
+        let plan = read_board(words).map_err(|_| "refused")?;
+        let flash = (plan.setup.base, plan.sectors, plan.words);
+        assert_eq!(rt; flash, (base, sectors, count), "board {text}");
+    }
+    Ok(())
+}
+
+// The largest flash that is listed is printed whole: 524,288 bytes.
+#[test]
+fn largest(rt: HostRuntime) -> Result<(), Fail> {
+    let report = replay_text(rt.alloc(), b"board part=EF boot=0 data=0\n").map_err(|_| "refused")?;
+    assert_eq!(rt; report.as_str().len(), 1_048_601, "bytes");
     Ok(())
 }
 
@@ -22,7 +54,7 @@ fn malformed(rt: HostRuntime) -> Result<(), Fail> {
 }
 
 // Each log with the whole output.
-const REPLAYED: [(&str, &str); 20] = [
+const REPLAYED: [(&str, &str); 23] = [
     // nothing reaches the bench board
     (
         "",
@@ -542,6 +574,78 @@ S\tConnected\n\
 M\t0\t0102FFFF0506\n\
 M\t2\tFFFF\n\
 M\t3\tAAFFFF\n",
+    ),
+    // a part ID that is listed: its base, and its four sectors
+    (
+        "board words=1 boot=0 part=2C data=0\n\
+0B081880#0101000000000000\n\
+0B081880#0202000100000000\n\
+0B081880#1303021234000000\n\
+0B081880#02040000003F3FFF\n\
+0B081880#0305010000000000\n\
+0B081880#02060000003F4003\n\
+0B081880#0307020506000000\n\
+0B081880#0308010000000000\n",
+        "F\t0101000000000000\tFF00010100002C00\n\
+F\t0202000100000000\tFF00020000000000\n\
+F\t1303021234000000\tFF00030100000002\n\
+F\t02040000003F3FFF\tFF00040000000000\n\
+F\t0305010000000000\tFF32050000000000\n\
+F\t02060000003F4003\tFF00060000000000\n\
+F\t0307020506000000\tFF000700003F4004\n\
+F\t0308010000000000\tFF32080000000000\n\
+S\tConnected\n\
+M\t0\tFFFFFFFFFFFFFFFF\n\
+M\t2\t\n\
+M\t3\t\n",
+    ),
+    // the base and the sectors that are named, before it and behind it
+    (
+        "board base=2000 part=0x2c words=1 sectors=2 boot=0 data=0\n\
+0B081880#0101000000000000\n\
+0B081880#0202000100000000\n\
+0B081880#1303021234000000\n\
+0B081880#0204000000001FFF\n\
+0B081880#0305010000000000\n\
+0B081880#0206000000002001\n\
+0B081880#0307020506000000\n\
+0B081880#0308010000000000\n",
+        "F\t0101000000000000\tFF00010100002C00\n\
+F\t0202000100000000\tFF00020000000000\n\
+F\t1303021234000000\tFF00030100000002\n\
+F\t0204000000001FFF\tFF00040000000000\n\
+F\t0305010000000000\tFF32050000000000\n\
+F\t0206000000002001\tFF00060000000000\n\
+F\t0307020506000000\tFF00070000002002\n\
+F\t0308010000000000\tFF32080000000000\n\
+S\tConnected\n\
+M\t0\tFFFFFFFF\n\
+M\t2\t\n\
+M\t3\t\n",
+    ),
+    // a part ID that is not listed
+    (
+        "board part=2D boot=0 data=0\n\
+0B081880#0101000000000000\n\
+0B081880#0202000100000000\n\
+0B081880#1303021234000000\n\
+0B081880#0204000000000FFF\n\
+0B081880#0305010000000000\n\
+0B081880#020600000000103F\n\
+0B081880#0307020506000000\n\
+0B081880#0308010000000000\n",
+        "F\t0101000000000000\tFF00010100002D00\n\
+F\t0202000100000000\tFF00020000000000\n\
+F\t1303021234000000\tFF00030100000002\n\
+F\t0204000000000FFF\tFF00040000000000\n\
+F\t0305010000000000\tFF32050000000000\n\
+F\t020600000000103F\tFF00060000000000\n\
+F\t0307020506000000\tFF00070000001040\n\
+F\t0308010000000000\tFF32080000000000\n\
+S\tConnected\n\
+M\t0\tFFFFFFFFFFFFFFFFFFFFFFFFFFFFFFFFFFFFFFFFFFFFFFFFFFFFFFFFFFFFFFFFFFFFFFFFFFFFFFFFFFFFFFFFFFFFFFFFFFFFFFFFFFFFFFFFFFFFFFFFFFFFFFFFFFFFFFFFFFFFFFFFFFFFFFFFFFFFFFFFFFFFFFFFFFFFFFFFFFFFFFFFFFFFFFFFFFFFFFFFFFFFFFFFFFFFFFFFFFFFFFFFFFFFFFFFFFFFFFFFFFFFFFFFFFFFFFFF\n\
+M\t2\t\n\
+M\t3\t\n",
     ),
     // comments, empty lines, white space, CR LF, and a line of candump
     (

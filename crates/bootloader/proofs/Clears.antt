@@ -6,7 +6,7 @@ use Rattle.std.proofs.lemmas.Nat.{pow_pos, div_below, div-add-mod'}
 use Rattle.memory.specs.Part.{Shape}
 use Rattle.memory.specs.Calls.{after_clear}
 use Rattle.memory.specs.Changes.{clear, changed_all}
-use Rattle.memory.proofs.Changing.{changed_all-++}
+use Rattle.memory.specs.Changing.{changed_all-++}
 use Rattle.bootloader.specs.Memories.{names, clears_below}
 
 module _ (s : Shape) (mask : Option ℕ) (xs : List ℕ) where

@@ -1,8 +1,14 @@
 pub mod Buses
+pub mod Bytes
+pub mod Carrying
 pub mod Clears
+pub mod Connecting
+pub mod Effects
 pub mod Listening
-pub mod Places
 pub mod Puts
+pub mod Running
+pub mod Saying
 pub mod Spaces
+pub mod Starting
 pub mod Turns
 pub mod Worked

@@ -14,7 +14,7 @@ use Rattle.bootloader.specs.declared.session.Session.{Session}
 use Rattle.bootloader.specs.Memories.{Memory, done_by, is_space, placed_in, changes_in}
 use Rattle.bootloader.specs.Dialog.{Effect, mta_effect, unlock_effect, download_effect, clear_effect, record_effect, contents_after, dialog_after}
 use Rattle.bootloader.specs.Board.{Board, in_space, state_after, session_after, board_after, seal_for, sealed_by, imaging, image_effect, effect_of, judged, is_connected, is_connect}
-use Rattle.bootloader.proofs.Places.{changes_in_same, changes_in_other, unchanged}
+use Rattle.bootloader.specs.Places.{changes_in_same, changes_in_other, unchanged}
 
 -- what is done to the selected memory changes no memory of another space
 abbrev pub OnlySelected : Dialog → (Memory → Result Effect Refusal) → Type 0

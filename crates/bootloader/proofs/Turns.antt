@@ -6,6 +6,7 @@ use Rattle.std.specs.Str.{bytes_eq}
 use Rattle.std.proofs.lemmas.Slice.Eq.{bytes_eq-Decides}
 use Rattle.std.proofs.lemmas.Bool.Decides.{nat_tests}
 use Rattle.std.proofs.Math.Bool.{or-true}
+use Rattle.bootloader.specs.declared.board.TheConstants.{FRAME_ID, ACTION_SERVICE}
 use Rattle.bootloader.specs.declared.space.Space.TheVariants.{Flash, Boot, Data}
 use Rattle.bootloader.specs.declared.session.Session.{Session}
 use Rattle.bootloader.specs.declared.refusal.Refusal.{Refusal}
@@ -16,7 +17,7 @@ use Rattle.bootloader.specs.declared.command.Command.TheVariants.{Connect}
 use Rattle.bootloader.specs.declared.session.Exchange.{Exchange}
 use Rattle.bootloader.specs.Frames.{command_of, refusal_code}
 use Rattle.bootloader.specs.Dialog.{Effect, fresh_dialog}
-use Rattle.bootloader.specs.Board.{Board, effect_of, judged, is_connected, is_connect, is_running, board_after, reply_to, storing, answered, answered_anew, answered_from, stored_reply, served, admitted, stepped, state_ticked}
+use Rattle.bootloader.specs.Board.{Board, effect_of, judged, is_connected, is_connect, is_running, board_after, reply_to, reply_with, identity, storing, answered, answered_anew, answered_from, stored_reply, served, admitted, stepped, state_ticked}
 use Rattle.bootloader.specs.Listener.{changed_memory, told, told_by, is_last, is_accepted, heard}
 use Rattle.bootloader.specs.Laws.{listener_of, FreshAfterConnect, OfTurn, FrameLaws, TickLaws}
 use Rattle.bootloader.proofs.Listening.{Told, accepted_told}
@@ -83,14 +84,14 @@ both true false h = grind arith
 both false t h = grind arith
 
 -- what passes: the reply has its place, the frame its identifier and its eight bytes, and the application does not run
-abbrev passes : Board → ℕ → ℕ → List ℕ → Bool
-passes b places id f = places == 8 && (id == 0x0B081880 && (length f == 8 && not (is_running b.session.state)))
+abbrev pub passes : Board → ℕ → ℕ → List ℕ → Bool
+passes b places id f = places == 8 && (id == FRAME_ID && (length f == 8 && not (is_running b.session.state)))
 
 passes-later : (b c : Board) (places id : ℕ) (f : List ℕ) → passes b places id f ≡ true → is_running c.session.state ≡ false → passes c 8 id f ≡ true
 passes-later b c places id f h r = grind (arith, nat_tests)
 
 -- a turn that ends with its frame stored is that of the frame sent again
-again_stored : (b : Board) (places id : ℕ) (f reply : List ℕ) (c : Board) → passes b places id f ≡ true → (slice_index f 0 == 0x21) ≡ false
+again_stored : (b : Board) (places id : ℕ) (f reply : List ℕ) (c : Board) → passes b places id f ≡ true → (slice_index f 0 == ACTION_SERVICE) ≡ false
     → stored_reply c.session.stored f ≡ Some reply → is_running c.session.state ≡ false → stepped c 8 id f ≡ record { board = c; reply = Some reply }
 again_stored b places id f reply c h a s r =
     ap (λ t. cond t (admitted c f) (record { board = c; reply = None })) (passes-later b c places id f h r)
@@ -100,20 +101,21 @@ again_stored b places id f reply c h a s r =
 bytes_same : (f : List ℕ) → bytes_eq f f ≡ true
 bytes_same f = grind (arith, bytes_eq-Decides f f)
 
-none_some : {A : Type 0} {X : Type 0} (x : X) → None ≡ Some x → A
+pub none_some : {A : Type 0} {X : Type 0} (x : X) → None ≡ Some x → A
 none_some x h = absurd (grind arith)
 
 some_none : {A : Type 0} {X : Type 0} (x : X) → Some x ≡ None → A
 some_none x h = absurd (grind arith)
 
-some_same : {X : Type 0} (x y : X) → Some x ≡ Some y → x ≡ y
+pub some_same : {X : Type 0} (x y : X) → Some x ≡ Some y → x ≡ y
 some_same x y h = grind arith
 
 -- what is fresh after a Connect depends on the session alone
-fresh_same : (b c : Board) → c.session.state ≡ b.session.state → c.session.dialog ≡ b.session.dialog → c.session.stored ≡ b.session.stored → FreshAfterConnect b → FreshAfterConnect c
-fresh_same b c s d t h = record {
+fresh_same : (b c : Board) → c.setup ≡ b.setup → c.session.state ≡ b.session.state → c.session.dialog ≡ b.session.dialog → c.session.stored ≡ b.session.stored → FreshAfterConnect b → FreshAfterConnect c
+fresh_same b c u s d t h = record {
   state = λ x e q. s ∙ h.state x (sym t ∙ e) q;
   dialog = λ x e q. d ∙ h.dialog x (sym t ∙ e) q;
+  reply = λ x e q. h.reply x (sym t ∙ e) q ∙ ap (λ v. reply_with (slice_index x.frame 1) (Ok (identity v))) (sym u);
 }
 
 -- a frame that is not the last one is not the one that is stored
@@ -135,10 +137,10 @@ not_admitted b id f = record {
 }
 
 -- Action Service
-served_state : (s : Session) (f : List ℕ) → (served s f).state ≡ s.state
+pub served_state : (s : Session) (f : List ℕ) → (served s f).state ≡ s.state
 served_state s f = grind arith
 
-served_dialog : (s : Session) (f : List ℕ) → (served s f).dialog ≡ s.dialog
+pub served_dialog : (s : Session) (f : List ℕ) → (served s f).dialog ≡ s.dialog
 served_dialog s f = grind arith
 
 served_stored : (s : Session) (f : List ℕ) → (served s f).stored ≡ s.stored
@@ -157,10 +159,10 @@ of_served b id f = record {
   same_reply = λ x e q reply h. none_some reply h;
   refused = λ reply h _. none_some reply h;
   again = λ reply h _. none_some reply h;
-  connected = fresh_same b _ (served_state b.session f) (served_dialog b.session f) (served_stored b.session f);
+  connected = fresh_same b _ refl (served_state b.session f) (served_dialog b.session f) (served_stored b.session f);
 }
 
-module _ (b : Board) (places id : ℕ) (f : List ℕ) (h : passes b places id f ≡ true) (a : (slice_index f 0 == 0x21) ≡ false) where
+module _ (b : Board) (places id : ℕ) (f : List ℕ) (h : passes b places id f ≡ true) (a : (slice_index f 0 == ACTION_SERVICE) ≡ false) where
   -- a frame that is repeated
   of_repeated : (x : Exchange) → b.session.stored ≡ Some x → bytes_eq x.frame f ≡ true → OfTurn b id f (record { board = b; reply = Some x.reply })
   of_repeated x e q =
@@ -183,6 +185,9 @@ module _ (b : Board) (places id : ℕ) (f : List ℕ) (h : passes b places id f 
   connect_dialog : (o : Option Command) → o ≡ Some Connect → (board_after b o (judged b o)).session.dialog ≡ fresh_dialog
   connect_dialog o e = ap (λ p. (board_after b p (judged b p)).session.dialog) e ∙ ap (λ t. (board_after b (Some Connect) (cond t (effect_of b Connect) (Err Denied))).session.dialog) (or-true (is_connected b.session.state))
 
+  connect_reply : (o : Option Command) → o ≡ Some Connect → reply_to f (judged b o) ≡ reply_with (slice_index f 1) (Ok (identity b.setup))
+  connect_reply o e = ap (λ p. reply_to f (judged b p)) e ∙ ap (λ t. reply_to f (cond t (effect_of b Connect) (Err Denied))) (or-true (is_connected b.session.state))
+
   of_answered : is_last (listener_of b).last f ≡ false → OfTurn b id f (answered_anew b f)
   of_answered l =
       let r = judged b (command_of f) in
@@ -197,6 +202,9 @@ module _ (b : Board) (places id : ℕ) (f : List ℕ) (h : passes b places id f 
         connected = λ _. record {
           state = λ x e q. connect_fresh (command_of f) (ap (λ y. command_of y.frame) (some_same (record { frame = f; reply = reply }) x e) ∙ q);
           dialog = λ x e q. connect_dialog (command_of f) (ap (λ y. command_of y.frame) (some_same (record { frame = f; reply = reply }) x e) ∙ q);
+          reply = λ x e q.
+              let same = some_same (record { frame = f; reply = reply }) x e in
+              sym (ap (λ y. y.reply) same) ∙ (connect_reply (command_of f) (ap (λ y. command_of y.frame) same ∙ q) ∙ ap (λ y. reply_with (slice_index y.frame 1) (Ok (identity b.setup))) same);
         };
       }
 
@@ -211,13 +219,13 @@ module _ (b : Board) (places id : ℕ) (f : List ℕ) (h : passes b places id f 
 pub frame_laws : (b : Board) (places id : ℕ) (f : List ℕ) → FrameLaws b places id f
 frame_laws b places id f = at_door (passes b places id f) refl
   where
-    by_code : passes b places id f ≡ true → (t : Bool) → (slice_index f 0 == 0x21) ≡ t
+    by_code : passes b places id f ≡ true → (t : Bool) → (slice_index f 0 == ACTION_SERVICE) ≡ t
         → OfTurn b id f (cond t (record { board = record b { session = served b.session f }; reply = None }) (answered b f))
     by_code h true q = of_served b id f
     by_code h false q = of_once b places id f h q b.session.stored refl
 
     at_door : (t : Bool) → passes b places id f ≡ t → OfTurn b id f (cond t (admitted b f) (record { board = b; reply = None }))
-    at_door true h = by_code h (slice_index f 0 == 0x21) refl
+    at_door true h = by_code h (slice_index f 0 == ACTION_SERVICE) refl
     at_door false h = not_admitted b id f
 
 pub tick_laws : (b : Board) → TickLaws b
@@ -227,5 +235,6 @@ tick_laws b = record {
   connected = λ h. record {
     state = λ x e q. ap (state_ticked b) (h.state x e q);
     dialog = λ x e q. h.dialog x e q;
+    reply = λ x e q. h.reply x e q;
   };
 }

@@ -12,7 +12,7 @@ session_examples = record { connected = refl; opened = refl; cleared = refl; dow
 
 pub frame_examples : FrameExamples
 unfolding crc_bits sampled changed_all takes_from puts_from clears_below changes_in
-frame_examples = record { five = refl; six = refl; swapped = refl }
+frame_examples = record { five = refl; six = refl; swapped = refl; rate = refl; silent = refl; written = refl; ending = refl }
 
 pub memory_examples : MemoryExamples
 unfolding crc_bits sampled changed_all takes_from puts_from clears_below changes_in

@@ -3,6 +3,8 @@ use Rattle.std.specs.Prelude.{ℕ, ◌-◌, Bool, true, false, cond, ◌&&◌, �
 use Rattle.std.specs.Str.{bytes_eq}
 use Rattle.memory.specs.Changes.{Change}
 use Rattle.memory.specs.Seal.{seal_of, seal_valid}
+use Rattle.bootloader.specs.declared.board.TheConstants.{FRAME_ID, ACTION_SERVICE}
+use Rattle.bootloader.specs.declared.session.TheConstants.{SET_RATE}
 use Rattle.bootloader.specs.declared.space.Space.{Space}
 use Rattle.bootloader.specs.declared.space.Space.TheVariants.{Flash, Register, Boot, Data}
 use Rattle.bootloader.specs.declared.rate.BitRate.{BitRate}
@@ -17,8 +19,8 @@ use Rattle.bootloader.specs.declared.dialog.Dialog.{Dialog}
 use Rattle.bootloader.specs.declared.session.Exchange.{Exchange}
 use Rattle.bootloader.specs.declared.session.Session.{Session}
 use Rattle.bootloader.specs.declared.session.Setup.{Setup}
-use Rattle.bootloader.specs.Frames.{command_of, refusal_code, rate_of, wait_ticks, two}
-use Rattle.bootloader.specs.Memories.{Memory, high, low, seal_puts, made_by, placed_in}
+use Rattle.bootloader.specs.Frames.{command_of, refusal_code, rate_of, wait_ticks, two, high, low}
+use Rattle.bootloader.specs.Memories.{Memory, seal_puts, made_by, placed_in}
 use Rattle.bootloader.specs.Dialog.{Effect, fresh_dialog, nothing, leaves, space_and_crc, unlocked_for, mta_effect, unlock_effect, download_effect, clear_effect, record_effect, payload_of, contents_after}
 
 -- a board: what it was made with, its talk with a host, and its three memories
@@ -221,21 +223,21 @@ abbrev pub rate_or : BitRate → Option BitRate → BitRate
 rate_or rate None = rate
 rate_or rate (Some asked) = asked
 
--- Action Service with the type 0x0081 asks for a bit rate
+-- Action Service asks for a bit rate by its type
 abbrev pub served : Session → List ℕ → Session
 served s f =
     let byte : ℕ → ℕ = slice_index f in
-    cond (two (byte 2) (byte 3) == 0x0081) (record s { rate = rate_or s.rate (rate_of (two (byte 4) (byte 5))) }) s
+    cond (two (byte 2) (byte 3) == SET_RATE) (record s { rate = rate_or s.rate (rate_of (two (byte 4) (byte 5))) }) s
 
 -- a frame of eight bytes, while the application does not run; Action Service has no reply
 abbrev pub admitted : Board → List ℕ → Turn
 admitted b f =
-    cond (slice_index f 0 == 0x21) (record { board = record b { session = served b.session f }; reply = None }) (answered b f)
+    cond (slice_index f 0 == ACTION_SERVICE) (record { board = record b { session = served b.session f }; reply = None }) (answered b f)
 
 -- what comes of a frame with this identifier and these bytes, where a reply has so many places
 abbrev pub stepped : Board → ℕ → ℕ → List ℕ → Turn
 stepped b places id f =
-    cond (places == 8 && (id == 0x0B081880 && (length f == 8 && not (is_running b.session.state))))
+    cond (places == 8 && (id == FRAME_ID && (length f == 8 && not (is_running b.session.state))))
     (admitted b f)
     (record { board = b; reply = None })
 
@@ -249,3 +251,7 @@ state_ticked b Running = Running
 -- the board after a tick
 abbrev pub ticked : Board → Board
 ticked b = record b { session = record (b.session) { state = state_ticked b b.session.state } }
+
+-- what comes of a frame that a host sends, with the eight places of a reply
+abbrev pub taken : Board → List ℕ → Turn
+taken b f = stepped b 8 FRAME_ID f

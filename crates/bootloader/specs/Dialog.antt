@@ -8,8 +8,8 @@ use Rattle.bootloader.specs.declared.refusal.Refusal.{Refusal}
 use Rattle.bootloader.specs.declared.refusal.Refusal.TheVariants.{Syntax, OutOfRange, Denied, Locked, Unavailable, Failed}
 use Rattle.bootloader.specs.declared.dialog.Unlocked.{Unlocked}
 use Rattle.bootloader.specs.declared.dialog.Dialog.{Dialog}
-use Rattle.bootloader.specs.Frames.{space_of, extension_of}
-use Rattle.bootloader.specs.Memories.{Memory, Placed, place, puts_taken, high, low, clears_below, is_mask, placed_in, changes_in}
+use Rattle.bootloader.specs.Frames.{space_of, extension_of, password_of, high, low}
+use Rattle.bootloader.specs.Memories.{Memory, Placed, place, puts_taken, clears_below, is_mask, placed_in, changes_in}
 
 -- flash and address 0 are selected, no record is gathered, everything is locked, and the CRC has seen no record
 abbrev pub fresh_dialog : Dialog
@@ -70,12 +70,17 @@ is_unlocked u Register = false
 is_unlocked u Boot = u.boot
 is_unlocked u Data = u.«data»
 
+-- a number is a password, where there is one
+abbrev pub fits : ℕ → Option ℕ → Bool
+fits n None = false
+fits n (Some password) = n == password
+
 -- the locks, with one opened by its password; the others stay as they are
 abbrev pub opened : Unlocked → ℕ → Option Unlocked
-opened u password =
-    cond (password == 0x1234) (Some (record u { flash = true }))
-    (cond (password == 0xABCD) (Some (record u { boot = true }))
-    (cond (password == 0x9876) (Some (record u { «data» = true })) None))
+opened u n =
+    cond (fits n (password_of Flash)) (Some (record u { flash = true }))
+    (cond (fits n (password_of Boot)) (Some (record u { boot = true }))
+    (cond (fits n (password_of Data)) (Some (record u { «data» = true })) None))
 
 -- the reply to a password that fits
 abbrev pub unlocking : Dialog → Option Unlocked → Result Effect Refusal

@@ -5,6 +5,9 @@ use Rattle.memory.specs.Crossing.{crossed_shape}
 use Rattle.memory.specs.Eeprom.{eeprom_shape}
 use Rattle.bootloader.specs.declared.state.Wait.TheVariants.{TwoSeconds}
 use Rattle.bootloader.specs.declared.state.State.TheVariants.{Waiting, Idle, Running}
+use Rattle.bootloader.specs.declared.rate.BitRate.TheVariants.{Kbit1000}
+use Rattle.bootloader.specs.declared.command.Command.TheVariants.{Unlock, Disconnect}
+use Rattle.bootloader.specs.Frames.{frame_of}
 use Rattle.bootloader.specs.Memories.{Memory, memory_of}
 use Rattle.bootloader.specs.Board.{Board, Turn, fresh_board, stepped, ticked}
 
@@ -20,7 +23,7 @@ abbrev pub bench : Board
 bench =
     fresh_board (record { base = 0x1000; part_id = 0x0001; major = 1; minor = 0; wait = TwoSeconds }) bench_flash bench_eeprom bench_eeprom
 
--- what comes of a frame from a host
+-- what comes of a frame from a host; its identifier is written out here
 abbrev pub taken : Board → List ℕ → Turn
 taken b f = stepped b 8 0x0B081880 f
 
@@ -100,6 +103,10 @@ pub record SessionExamples : Type 0 where
   pub started : (taken sealed disconnect).board.session.state ≡ Running
   pub not_started : (taken recorded disconnect).board.session.state ≡ Idle
 
+-- Action Service, which asks for 1000 kbit/s
+abbrev pub ask_for_rate : List ℕ
+ask_for_rate = 0x21 ∷ 0x01 ∷ 0x00 ∷ 0x81 ∷ 0x00 ∷ 0x00 ∷ 0x00 ∷ 0x00 ∷ []
+
 -- a download of five bytes passes and one of six has a fault of syntax; a password with its bytes swapped opens no lock
 pub record FrameExamples : Type 0 where
   pub five : (taken unlocked (0x03 ∷ 0x06 ∷ 0x05 ∷ 0x12 ∷ 0x34 ∷ 0x00 ∷ 0x00 ∷ 0x00 ∷ [])).reply
@@ -108,6 +115,12 @@ pub record FrameExamples : Type 0 where
       ≡ Some (0xFF ∷ 0x31 ∷ 0x06 ∷ 0x00 ∷ 0x00 ∷ 0x00 ∷ 0x00 ∷ 0x00 ∷ [])
   pub swapped : (taken (behind bench (connect ∷ select_register ∷ [])) (0x13 ∷ 0x02 ∷ 0x02 ∷ 0x34 ∷ 0x12 ∷ 0x00 ∷ 0x00 ∷ 0x00 ∷ [])).reply
       ≡ Some (0xFF ∷ 0x35 ∷ 0x02 ∷ 0x00 ∷ 0x00 ∷ 0x00 ∷ 0x00 ∷ 0x00 ∷ [])
+  -- Action Service sets the bit rate, and has no reply
+  pub rate : (taken bench ask_for_rate).board.session.rate ≡ Kbit1000
+  pub silent : (taken bench ask_for_rate).reply ≡ None
+  -- the frames that are written for two commands
+  pub written : frame_of 2 (Unlock 2 0x1234) ≡ unlock_flash
+  pub ending : frame_of 9 (Disconnect 1) ≡ disconnect
 
 -- the memories in that session: two bytes are put at the start of the flash, high byte first, and the seal at the end of the
 -- EEPROM; without a host the wait ends with tick 2,000

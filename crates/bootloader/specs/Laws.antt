@@ -1,12 +1,12 @@
 -- What holds of each frame and each tick, at any board.
-use Rattle.std.specs.Prelude.{◌≡◌, ℕ, false, List, None, Some}
+use Rattle.std.specs.Prelude.{◌≡◌, ℕ, false, List, None, Some, Ok, slice_index}
 use Rattle.std.specs.Option.{option_map}
 use Rattle.bootloader.specs.declared.state.State.TheVariants.{Connected}
 use Rattle.bootloader.specs.declared.command.Command.TheVariants.{Connect}
 use Rattle.bootloader.specs.declared.session.Exchange.{Exchange}
 use Rattle.bootloader.specs.Frames.{command_of}
 use Rattle.bootloader.specs.Dialog.{fresh_dialog}
-use Rattle.bootloader.specs.Board.{Board, Turn, storing, stepped, ticked, is_running}
+use Rattle.bootloader.specs.Board.{Board, Turn, storing, stepped, ticked, is_running, identity, reply_with}
 use Rattle.bootloader.specs.Listener.{Listener, heard, is_accepted}
 
 -- a listener that has what the board has
@@ -31,6 +31,7 @@ pub record SameMemories (a b : Board) : Type 0 where
 pub record FreshAfterConnect (b : Board) : Type 0 where
   pub state : (x : Exchange) → b.session.stored ≡ Some x → command_of x.frame ≡ Some Connect → b.session.state ≡ Connected
   pub dialog : (x : Exchange) → b.session.stored ≡ Some x → command_of x.frame ≡ Some Connect → b.session.dialog ≡ fresh_dialog
+  pub reply : (x : Exchange) → b.session.stored ≡ Some x → command_of x.frame ≡ Some Connect → x.reply ≡ reply_with (slice_index x.frame 1) (Ok (identity b.setup))
 
 -- what holds of a frame f with an identifier at a board b, by what came of it
 pub record OfTurn (b : Board) (id : ℕ) (f : List ℕ) (t : Turn) : Type 0 where

@@ -1,8 +1,12 @@
 pub mod Board
+pub mod BoardLaws
 pub mod BusLog
 pub mod Dialog
+pub mod Events
 pub mod Examples
 pub mod Frames
 pub mod Laws
 pub mod Listener
 pub mod Memories
+pub mod Places
+pub mod Reach

@@ -8,8 +8,8 @@ use Rattle.bootloader.specs.declared.space.Space.{Space}
 use Rattle.bootloader.specs.declared.space.Space.TheVariants.{Flash, Register, Boot, Data}
 use Rattle.bootloader.specs.declared.command.Command.{Command}
 use Rattle.bootloader.specs.declared.command.Command.TheVariants.{Connect, SetMta, Unlock, Clear, Download, DownloadSix, BuildChecksum, Disconnect}
-use Rattle.bootloader.specs.Frames.{command_of, space_of}
-use Rattle.bootloader.specs.Memories.{Memory, Placed, puts_from, clears_below, placed_in, changes_in, high, low}
+use Rattle.bootloader.specs.Frames.{command_of, space_of, high, low}
+use Rattle.bootloader.specs.Memories.{Memory, Placed, puts_from, clears_below, placed_in, changes_in}
 
 -- what a listener keeps: the memories as it has them, the space and the address that are selected, the bytes that were downloaded
 -- for them, and the last frame that was answered

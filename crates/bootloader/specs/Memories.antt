@@ -8,6 +8,7 @@ use Rattle.memory.specs.Changes.{Change, put, clear, changed_all}
 use Rattle.bootloader.specs.declared.refusal.Refusal.{Refusal}
 use Rattle.bootloader.specs.declared.refusal.Refusal.TheVariants.{Unavailable}
 use Rattle.bootloader.specs.declared.space.Space.{Space}
+use Rattle.bootloader.specs.Frames.{high, low}
 use Rattle.bootloader.specs.declared.space.Space.TheVariants.{Flash, Register, Boot, Data}
 
 -- a memory: the address at which it begins, how many bytes an address stands for, how it takes changes, and its bytes
@@ -59,13 +60,6 @@ done_by (Some cs) = Ok tt
 abbrev pub made_by : Shape → List ℕ → Option (List Change) → List ℕ
 made_by s xs None = xs
 made_by s xs (Some cs) = changed_all s cs xs
-
--- the high and the low byte of a number of two bytes
-abbrev pub high : ℕ → ℕ
-high n = n / 256 % 256
-
-abbrev pub low : ℕ → ℕ
-low n = n % 256
 
 -- the puts of a seal into the last two bytes, high byte first, if there are two and they take it
 abbrev pub seal_puts : ℕ → Shape → List ℕ → Option (List Change)

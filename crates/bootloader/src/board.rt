@@ -159,7 +159,7 @@ impl<F: WritablePart, B: WritablePart, E: WritablePart> Bootloader<F, B, E> {
     }
 
     // Begins the dialog anew.
-    #[tactic(auto, using(crate::proofs::Places::unchanged))]
+    #[tactic(auto, using(crate::specs::Places::unchanged))]
     fn connect(&mut self) -> Payload
         ensures answer { result ≡ identity (⟦<Self as Device>⟧.board self.old).setup }
         ensures after { let b = ⟦<Self as Device>⟧.board self.old
@@ -243,7 +243,7 @@ impl<F: WritablePart, B: WritablePart, E: WritablePart> Bootloader<F, B, E> {
     }
 
     // Seals an image of the flash; one of an EEPROM has no seal.
-    #[tactic(auto, using(crate::proofs::Places::none_made))]
+    #[tactic(auto, using(crate::specs::Places::none_made))]
     fn seal_image(&mut self) -> Result<(), Refusal>
         ensures answer { let b = ⟦<Self as Device>⟧.board self.old
             in result ≡ done_by (seal_for b b.session.dialog.space) }
@@ -257,7 +257,7 @@ impl<F: WritablePart, B: WritablePart, E: WritablePart> Bootloader<F, B, E> {
     }
 
     // Ends the dialog.
-    #[tactic(auto, using(crate::proofs::Places::unchanged))]
+    #[tactic(auto, using(crate::specs::Places::unchanged))]
     fn disconnect(&mut self, kind: u8) -> Result<Payload, Refusal>
         ensures answer { result ≡ payload_of (effect_of (⟦<Self as Device>⟧.board self.old) (Disconnect kind)) }
         ensures after { let b = ⟦<Self as Device>⟧.board self.old

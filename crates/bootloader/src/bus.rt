@@ -1,94 +1,111 @@
 // Frames and ticks, one after the other, and the replies to them.
-ghost use Rattle.std.specs.Prelude.{◌≡◌, IfOk, MatchResult};
+ghost use Rattle.std.specs.Prelude.{◌≡◌, List};
 ghost use Rattle.bootloader.specs.Laws.{listener_of};
-ghost use Rattle.bootloader.specs.Memories.{memory_of};
-ghost use Rattle.bootloader.specs.Board.{fresh_board};
+ghost use Rattle.bootloader.specs.Memories.{Memory, memory_of};
+ghost use Rattle.bootloader.specs.Board.{Board, fresh_board};
 ghost use Rattle.bootloader.specs.Listener.{listening};
-ghost use Rattle.bootloader.specs.BusLog.{happened, board_behind, replies_to, log_of, BusLog};
+ghost use Rattle.bootloader.specs.Events.{happened, board_behind, replies_to};
+ghost use Rattle.bootloader.specs.Events as events;
+ghost use Rattle.bootloader.specs.BusLog.{event_of, events_of, replies_of, BusLog};
 
 use crate::board::Bootloader;
 use crate::device::Device;
 use crate::session::Setup;
 use memory::WritablePart;
-use std::alloc::{AllocError, Global};
 
 // What reaches a board.
-#[derive(Drop)]
-pub enum Event {
+#[derive(Clone, Copy)]
+pub enum Event<'a> {
     // a millisecond passes
     Tick,
-    Frame { id: u32, bytes: Vec<u8> },
+    // a frame, and how long the place for its reply is
+    Frame {
+        id: u32,
+        bytes: &'a [u8],
+        places: usize,
+    },
 }
 
-// A board behind some events, and the reply to each of them.
-#[derive(Drop)]
-pub struct Replayed<F, B, E> {
-    pub board: Bootloader<F, B, E>,
-    pub replies: Vec<Option<[u8; 8]>>,
+// What reaches a board, and the place for the reply to it.
+#[derive(Clone, Copy)]
+pub struct Entry<'a> {
+    pub event: Event<'a>,
+    pub reply: Option<[u8; 8]>,
 }
 
-// Lets events reach a fresh board over these parts, in their order.
-pub fn replay<F: WritablePart + Drop, B: WritablePart + Drop, E: WritablePart + Drop>(
-    heap: Global,
+// Lets events reach a fresh board over these parts, in their order, puts the reply to each into its
+// place, and hands the board out.
+pub fn replay<F: WritablePart, B: WritablePart, E: WritablePart>(
     setup: Setup,
     flash: F,
     boot: B,
     eeprom: E,
-    events: &[Event],
-) -> Result<Replayed<F, B, E>, AllocError>
-    ensures answer { IfOk result (λ r. r.replies.items ≡ replies_to (fresh_board setup
-        (memory_of setup.base F.BYTES_PER_ADDRESS (F.shape flash) (F.contents flash))
-        (memory_of 0 B.BYTES_PER_ADDRESS (B.shape boot) (B.contents boot))
-        (memory_of 0 E.BYTES_PER_ADDRESS (E.shape eeprom) (E.contents eeprom))) events.now) }
-    ensures after { IfOk result (λ r. ⟦<Bootloader<F, B, E> as Device>⟧.board r.board ≡ board_behind (fresh_board setup
-        (memory_of setup.base F.BYTES_PER_ADDRESS (F.shape flash) (F.contents flash))
-        (memory_of 0 B.BYTES_PER_ADDRESS (B.shape boot) (B.contents boot))
-        (memory_of 0 E.BYTES_PER_ADDRESS (E.shape eeprom) (E.contents eeprom))) events.now) }
-    ensures law { IfOk result (λ r. BusLog (listening
+    entries: &mut [Entry<'_>],
+) -> Bootloader<F, B, E>
+    ensures same { events_of entries.new ≡ events_of entries.old }
+    ensures replies { replies_of entries.new ≡ replies_to (fresh_board setup
         (memory_of setup.base F.BYTES_PER_ADDRESS (F.shape flash) (F.contents flash))
         (memory_of 0 B.BYTES_PER_ADDRESS (B.shape boot) (B.contents boot))
         (memory_of 0 E.BYTES_PER_ADDRESS (E.shape eeprom) (E.contents eeprom)))
-        (log_of events.now r.replies.items) (⟦<Bootloader<F, B, E> as Device>⟧.board r.board)) }
+        (events_of entries.old) }
+    ensures after { ⟦<Bootloader<F, B, E> as Device>⟧.board result ≡ board_behind (fresh_board setup
+        (memory_of setup.base F.BYTES_PER_ADDRESS (F.shape flash) (F.contents flash))
+        (memory_of 0 B.BYTES_PER_ADDRESS (B.shape boot) (B.contents boot))
+        (memory_of 0 E.BYTES_PER_ADDRESS (E.shape eeprom) (E.contents eeprom)))
+        (events_of entries.old) }
+    ensures law { BusLog (fresh_board setup
+        (memory_of setup.base F.BYTES_PER_ADDRESS (F.shape flash) (F.contents flash))
+        (memory_of 0 B.BYTES_PER_ADDRESS (B.shape boot) (B.contents boot))
+        (memory_of 0 E.BYTES_PER_ADDRESS (E.shape eeprom) (E.contents eeprom)))
+        (events_of entries.old) }
 {
     let mut board = Bootloader::new(setup, flash, boot, eeprom);
-    let replies = run(heap, &mut board, events)?;
-    Ok(Replayed { board, replies })
+    run(&mut board, entries);
+    board
 }
 
-// Lets events reach a board, in their order, and hands out the reply to each. For want of memory none reaches it.
-pub fn run<D: Device>(
-    heap: Global,
-    device: &mut D,
-    events: &[Event],
-) -> Result<Vec<Option<[u8; 8]>>, AllocError>
-    ensures answer { IfOk result (λ v. v.items ≡ replies_to (D.board device.old) events.now) }
-    ensures after { MatchResult result
-        (λ _. D.board device.new ≡ board_behind (D.board device.old) events.now)
-        (λ _. D.board device.new ≡ D.board device.old) }
-    ensures law { IfOk result (λ v. BusLog (listener_of (D.board device.old)) (log_of events.now v.items) (D.board device.new)) }
+// Lets events reach a board, in their order, and puts the reply to each into its place.
+pub fn run<D: Device>(device: &mut D, entries: &mut [Entry<'_>])
+    ensures same { events_of entries.new ≡ events_of entries.old }
+    ensures replies { replies_of entries.new
+        ≡ replies_to (D.board device.old) (events_of entries.old) }
+    ensures after { D.board device.new ≡ board_behind (D.board device.old) (events_of entries.old) }
+    ensures law { BusLog (D.board device.old) (events_of entries.old) }
 {
-    let mut replies = Vec::with_capacity(heap, events.len())?;
-    for event in events {
-        replies.push_reserved(happen(device, event));
+    for entry in entries.iter_mut() {
+        entry.reply = happen(device, entry.event);
     }
-    Ok(replies)
 }
+
+// The law of the bus log, of all boards and events; a listener to a fresh board needs to know its
+// memories alone.
+#[tactic(auto, using(crate::proofs::Buses::bus_log))]
+pub fn bus_law()
+    ensures law { (b : Board) (es : List events.Event) → BusLog b es }
+    ensures fresh { (setup : Setup) (flash boot eeprom : Memory)
+        → listener_of (fresh_board setup flash boot eeprom) ≡ listening flash boot eeprom }
+{}
 
 // Lets an event reach a board, and hands out the reply to it.
-fn happen<D: Device>(device: &mut D, event: &Event) -> Option<[u8; 8]>
-    ensures answer { result ≡ (happened (D.board device.old) event.now).reply }
-    ensures after { D.board device.new ≡ (happened (D.board device.old) event.now).board }
+fn happen<D: Device>(device: &mut D, event: Event<'_>) -> Option<[u8; 8]>
+    ensures answer { result ≡ (happened (D.board device.old) (event_of event.entry)).reply }
+    ensures after { D.board device.new
+        ≡ (happened (D.board device.old) (event_of event.entry)).board }
 {
     match event {
-        Event::Frame { id, bytes } => {
-            let mut reply = [0; 8];
-            device
-                .frame(*id, bytes.as_slice(), &mut reply)
-                .then_some(reply)
-        }
         Event::Tick => {
             device.tick();
             None
+        }
+        Event::Frame { id, bytes, places } => {
+            // A longer place is as good as one of nine bytes: neither gets a reply.
+            let mut place = [0; 9];
+            let reply = &mut place[..places.min(9)];
+            if device.frame(id, bytes, reply) {
+                <[u8; 8]>::try_from(&*reply).ok()
+            } else {
+                None
+            }
         }
     }
 }

@@ -6,7 +6,7 @@ ghost use Rattle.bootloader.specs.Dialog.{fresh_dialog, mta_effect, unlock_effec
 
 use crate::programming::{clear_units, is_mask, offset_of, put_whole};
 use crate::refusal::Refusal;
-use crate::space::Space;
+use crate::space::{BOOT_PASSWORD, DATA_PASSWORD, FLASH_PASSWORD, Space};
 use arrayvec::ArrayVec;
 use memory::{CRC_START, ReadablePart, WritablePart, crc_over};
 
@@ -42,12 +42,12 @@ impl Unlocked {
         ensures { result ≡ opened self password }
     {
         match password {
-            0x1234 => Some(Unlocked {
+            FLASH_PASSWORD => Some(Unlocked {
                 flash: true,
                 ..self
             }),
-            0xABCD => Some(Unlocked { boot: true, ..self }),
-            0x9876 => Some(Unlocked { data: true, ..self }),
+            BOOT_PASSWORD => Some(Unlocked { boot: true, ..self }),
+            DATA_PASSWORD => Some(Unlocked { data: true, ..self }),
             _ => None,
         }
     }
@@ -161,7 +161,7 @@ impl Dialog {
     }
 
     // Clears the units that a mask names, or every unit.
-    #[tactic(auto, using(crate::proofs::Places::places))]
+    #[tactic(auto, using(crate::specs::Places::places))]
     pub(crate) fn clear<P: WritablePart>(
         &mut self,
         part: &mut P,
@@ -186,7 +186,7 @@ impl Dialog {
     }
 
     // Puts the record, if it has the CRC that is told.
-    #[tactic(auto, using(crate::proofs::Places::places))]
+    #[tactic(auto, using(crate::specs::Places::places))]
     pub(crate) fn program<P: WritablePart>(
         &mut self,
         part: &mut P,

@@ -1,6 +1,13 @@
 // The spaces of addresses that a host can select.
 ghost use Rattle.std.specs.Prelude.{◌≡◌};
-ghost use Rattle.bootloader.specs.Frames.{space_of, extension_of};
+ghost use Rattle.bootloader.specs.Frames.{space_of, extension_of, password_of};
+
+// The numbers that unlock the memories.
+pub(crate) const FLASH_PASSWORD: u16 = 0x1234;
+
+pub(crate) const BOOT_PASSWORD: u16 = 0xABCD;
+
+pub(crate) const DATA_PASSWORD: u16 = 0x9876;
 
 #[derive(Clone, Copy, PartialEq, Eq, Debug)]
 pub enum Space {
@@ -36,6 +43,18 @@ impl Space {
             Space::Register => 1,
             Space::Boot => 2,
             Space::Data => 3,
+        }
+    }
+
+    // The number that unlocks the memory of the space; the password register is no memory, and has none.
+    pub fn password(self) -> Option<u16>
+        ensures { result ≡ password_of self }
+    {
+        match self {
+            Space::Flash => Some(FLASH_PASSWORD),
+            Space::Register => None,
+            Space::Boot => Some(BOOT_PASSWORD),
+            Space::Data => Some(DATA_PASSWORD),
         }
     }
 }

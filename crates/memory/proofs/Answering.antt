@@ -4,7 +4,7 @@ use Rattle.std.proofs.lemmas.List.{length-set}
 use Rattle.std.proofs.lemmas.Bool.Decides.{nat_tests}
 use Rattle.memory.specs.Part.{Shape}
 use Rattle.memory.specs.Calls.{after_put, after_clear}
-use Rattle.memory.proofs.Clearing.{length-cleared}
+use Rattle.memory.specs.Clearing.{length-cleared}
 
 pub length-after_put : (s : Shape) (xs : List ℕ) (o v : ℕ) → length (after_put s xs o v) ≡ length xs
 length-after_put s xs o v = grind (arith, nat_tests, length-set)

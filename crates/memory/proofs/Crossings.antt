@@ -1,6 +1,7 @@
 -- Laws of the lane crossing. Assumes nothing.
-use Rattle.std.specs.Prelude.{◌≡◌, ℕ, ◌<◌, ◌≤◌, cond, List, length, Ok, Err, nat_lt, slice_index, slice_set}
-use Rattle.std.proofs.Common.{refl, ◌∙◌, arith}
+use Rattle.std.specs.Prelude.{◌≡◌, ℕ, ◌<◌, ◌≤◌, ◌+◌, ◌-◌, ◌*◌, ◌/◌, ◌%◌, cond, List, length, Ok, Err, ◌==◌, nat_lt, slice_index, slice_set}
+use Rattle.std.proofs.Common.{true, false, Bool, refl, sym, ap, ◌∙◌, arith}
+use Rattle.std.proofs.Math.Nat.{div-div-eq-div-mul}
 use Rattle.std.proofs.lemmas.List.FromFn.{get_or-map-range_with_len}
 use Rattle.std.proofs.lemmas.List.{ext_get_or, length-set, get_or-set_other}
 use Rattle.std.proofs.lemmas.Grind.{get_or-set_at}
@@ -11,8 +12,8 @@ use Rattle.memory.specs.Changes.{cleared_unit}
 use Rattle.memory.specs.Calls.{read_answer, question_answer, put_answer, after_put, after_clear}
 use Rattle.memory.specs.Shapes.{cross_inside, length-crossed}
 use Rattle.memory.proofs.Answering.{length-after_put, length-after_clear}
-use Rattle.memory.proofs.Clearing.{length-cleared, get_or-cleared}
-use Rattle.memory.specs.Crossing.{crossed, crossed_contents, crossed_shape, CrossedTwice}
+use Rattle.memory.specs.Clearing.{length-cleared, get_or-cleared}
+use Rattle.memory.specs.Crossing.{crossed, crossed_contents, crossed_shape, CrossedTwice, KeepsSectors}
 
 pub cross_outside : (n o : ℕ) → n ≤ o → crossed n o ≡ o
 cross_outside n o h = grind (arith, nat_tests)
@@ -78,3 +79,29 @@ pub after_clear_crossed : (xs : List ℕ) (s : Shape) (u : ℕ) → crossed_cont
 after_clear_crossed xs s u = grind (arith, cleared_crossed xs s.unit_of u)
 
 pub ruleset crossings = (length-crossed, read_crossed, question_crossed, put_crossed, after_put_crossed, after_clear_crossed, length-after_put, length-after_clear, crossed-twice)
+
+-- an even offset and the next have the same quotient by an even number
+next_quotient : (n o : ℕ) → n % 2 ≡ 0 → o % 2 ≡ 0 → (o + 1) / n ≡ o / n
+next_quotient n o h e =
+    let even : 2 * (n / 2) ≡ n = omega (arith, h) in
+    let halves : (o + 1) / 2 ≡ o / 2 = omega (arith, e) in
+    ap (λ m. (o + 1) / m) (sym even)
+    ∙ (sym (div-div-eq-div-mul (o + 1) 2 (n / 2))
+    ∙ (ap (λ q. q / (n / 2)) halves
+    ∙ (div-div-eq-div-mul o 2 (n / 2) ∙ ap (λ m. o / m) even)))
+
+-- the other byte of a word lies in the same sector
+crossed_quotient : (k n o : ℕ) → n % 2 ≡ 0 → o < k * n → crossed (k * n) o / n ≡ o / n
+crossed_quotient k n o h lt = by (o % 2 == 0) refl
+  where
+    whole : (k * n) % 2 ≡ 0
+    whole =
+        let even : n ≡ 2 * (n / 2) = omega (arith, h) in
+        ap (λ m. (k * m) % 2) even ∙ grind arith
+
+    by : (t : Bool) → (o % 2 == 0) ≡ t → crossed (k * n) o / n ≡ o / n
+    by true q = ap (λ p. p / n) (grind (arith, nat_tests, whole)) ∙ next_quotient n o h (grind (arith, nat_tests))
+    by false q = ap (λ p. p / n) (grind (arith, nat_tests)) ∙ (sym (next_quotient n (o - 1) h (grind (arith, nat_tests))) ∙ ap (λ p. p / n) (grind (arith, nat_tests)))
+
+pub crossed_sectors : KeepsSectors
+crossed_sectors l o h lt = ap (λ q. l.sectors - 1 - q) (crossed_quotient l.sectors l.size o h lt)

@@ -1,6 +1,4 @@
 pub mod Answering
-pub mod Changing
-pub mod Clearing
 pub mod Crossings
 pub mod Cuts
 pub mod Linear

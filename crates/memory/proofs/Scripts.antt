@@ -9,7 +9,7 @@ use Rattle.memory.specs.declared.script.Answer.{Answer}
 use Rattle.memory.specs.Part.{Shape}
 use Rattle.memory.specs.Changes.{changed_all, ByLast}
 use Rattle.memory.specs.Script.{answer_of, after_action, answers_of, made_by, made_by_all}
-use Rattle.memory.proofs.Changing.{changed_all-++, changed_all-by_last}
+use Rattle.memory.specs.Changing.{changed_all-++, changed_all-by_last}
 
 -- the contents after actions
 abbrev pub after_all : Shape → List ℕ → List Action → List ℕ

@@ -1,6 +1,8 @@
 -- Lane crossing: the bytes of each pair of offsets change places.
-use Rattle.std.specs.Prelude.{◌≡◌, ℕ, ◌+◌, ◌-◌, ◌%◌, cond, List, map, length, ◌==◌, nat_lt, slice_index}
+use Rattle.std.specs.Prelude.{◌≡◌, ℕ, ◌<◌, ◌+◌, ◌-◌, ◌%◌, cond, List, map, length, ◌==◌, nat_lt, slice_index}
 use Rattle.std.specs.List.{range_with_len}
+use Rattle.memory.specs.declared.layout.Layout.{Layout}
+use Rattle.memory.specs.Flash.{flash_length, flash_shape}
 use Rattle.memory.specs.Part.{Shape}
 
 -- the offset below, in a part of length n: the odd one of a pair for the even one and the even one for the odd one; a
@@ -28,3 +30,8 @@ crossed_meaning m = record { contents = crossed_contents m.contents; shape = cro
 -- crossing twice is the part itself
 abbrev pub CrossedTwice : Type 0
 CrossedTwice = (m : Meaning) → crossed_meaning (crossed_meaning m) ≡ m
+
+-- over a flash whose sectors are whole words each offset stays in its sector, so that the crossing has the units of the flash
+abbrev pub KeepsSectors : Type 0
+KeepsSectors = (l : Layout) (o : ℕ) → l.size % 2 ≡ 0 → o < flash_length l
+    → (crossed_shape (flash_length l) (flash_shape l)).unit_of o ≡ (flash_shape l).unit_of o

@@ -1,6 +1,8 @@
 pub mod Blank
 pub mod Calls
 pub mod Changes
+pub mod Changing
+pub mod Clearing
 pub mod Crc
 pub mod Crossing
 pub mod Eeprom

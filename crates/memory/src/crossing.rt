@@ -3,7 +3,7 @@
 // Lane crossing: a part over any part, with the bytes of each pair of offsets in each other's place. Files
 // carry words high byte first, and a flash array has them low byte first.
 ghost use Rattle.std.specs.Prelude.{◌≡◌, length};
-ghost use Rattle.memory.specs.Crossing.{crossed, crossed_contents, crossed_shape, CrossedTwice};
+ghost use Rattle.memory.specs.Crossing.{crossed, crossed_contents, crossed_shape, CrossedTwice, KeepsSectors};
 ghost use Rattle.std.proofs.Common.{arith, rules};
 ghost use Rattle.memory.specs.Shapes.{length-crossed, crossed-shaped};
 
@@ -32,6 +32,7 @@ impl<P: ReadablePart> Crossing<P> {
     pub fn new(below: P) -> Crossing<P>
         ensures below { result.below ≡ below }
         ensures contents { ⟦<Crossing<P> as ReadablePart>⟧.contents result ≡ crossed_contents (P.contents below) }
+        ensures law { KeepsSectors }
     {
         Crossing { below }
     }
