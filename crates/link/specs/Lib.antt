@@ -1,0 +1,3 @@
+pub mod Link
+pub mod Table
+pub mod Trace

@@ -1,0 +1,4 @@
+pub mod Carrying
+pub mod Counts
+pub mod Lossless
+pub mod Taking

@@ -1,0 +1,5 @@
+pub mod Counting
+pub mod Joining
+pub mod Laws
+pub mod Session
+pub mod SessionLaws
