@@ -1,0 +1,3 @@
+pub mod Blanks
+pub mod Traces
+pub mod Loads

@@ -1,0 +1,11 @@
+pub mod Examples
+pub mod Load
+pub mod Loaded
+pub mod Mask
+pub mod Plan
+pub mod Prepared
+pub mod Promises
+pub mod Record
+pub mod Report
+pub mod Source
+pub mod Texts
