@@ -1,6 +1,6 @@
 //! The board in plain Rust: the bootloader over three memory parts, all of its protocol but for the ticks.
 
-// The bit rate is never read here.
+// The bit rate is never read here, and no program uses all of it.
 #![allow(dead_code)]
 
 use crate::crc::eight_by_eight;
@@ -258,6 +258,10 @@ impl<F: WritablePart, B: WritablePart, E: WritablePart> Board<F, B, E> {
             boot,
             eeprom,
         }
+    }
+
+    pub fn flash(&self) -> &F {
+        &self.flash
     }
 
     /// Takes a frame with its identifier; the reply, if there is one.

@@ -1,6 +1,9 @@
 //! A strict S-record checker in plain, safe Rust, written to be compared with the proved one.
 //! It keeps the same rules and gives the same outcomes, and has no tricks.
 
+// No program uses all of it.
+#![allow(dead_code)]
+
 /// Why a text is refused; the numbers are those of the proved checker.
 #[derive(Clone, Copy, PartialEq, Eq, Debug)]
 pub enum Fault {
@@ -21,6 +24,16 @@ pub const MAX_SIZE: u64 = 1_048_576;
 /// Whether a text suits a target: 0 is flash with two bytes an address, 2 and 3 are EEPROMs of so
 /// many bytes. A fault comes with its line, from 1, or with 0 where no line has it.
 pub fn check(text: &[u8], target: u8, size: u64) -> Result<(), (Fault, usize)> {
+    check_with(text, target, size, |_, _| {})
+}
+
+/// The same, which shows each line that it has checked, with its number from 1.
+pub fn check_with(
+    text: &[u8],
+    target: u8,
+    size: u64,
+    mut take: impl FnMut(usize, &Line<'_>),
+) -> Result<(), (Fault, usize)> {
     let width = match target {
         0 => 2,
         2 | 3 if (1..=MAX_SIZE).contains(&size) => 1,
@@ -31,11 +44,33 @@ pub fn check(text: &[u8], target: u8, size: u64) -> Result<(), (Fault, usize)> {
     }
     let mut checker = Checker::new(width);
     for (before, line) in text.split_inclusive(|&c| c == b'\n').enumerate() {
-        checker
-            .line(without_end(line))
+        let mut buffer = [0; 256];
+        read(without_end(line), &mut buffer)
+            .and_then(|line| {
+                checker.line(&line)?;
+                take(before + 1, &line);
+                Ok(())
+            })
             .map_err(|fault| (fault, before + 1))?;
     }
     checker.finish().map_err(|fault| (fault, 0))
+}
+
+/// The data lines of a text, with their numbers from 1, up to a line at fault or one that is not taken.
+pub fn visit<E>(
+    text: &[u8],
+    mut take: impl FnMut(usize, u32, &[u8]) -> Result<(), E>,
+) -> Result<(), E> {
+    for (before, line) in text.split_inclusive(|&c| c == b'\n').enumerate() {
+        let mut buffer = [0; 256];
+        let Ok(line) = read(without_end(line), &mut buffer) else {
+            break;
+        };
+        if line.kind == Kind::Data {
+            take(before + 1, line.address, line.data)?;
+        }
+    }
+    Ok(())
 }
 
 /// A line without its LF or CR LF.
@@ -47,7 +82,7 @@ fn without_end(line: &[u8]) -> &[u8] {
 }
 
 #[derive(Clone, Copy, PartialEq, Eq)]
-enum Kind {
+pub enum Kind {
     Header,
     Data,
     Count,
@@ -55,14 +90,14 @@ enum Kind {
 }
 
 /// What one line says.
-struct Line {
-    kind: Kind,
-    address: u32,
-    data_len: usize,
+pub struct Line<'a> {
+    pub kind: Kind,
+    pub address: u32,
+    pub data: &'a [u8],
 }
 
 /// Reads a line by itself.
-fn read(line: &[u8]) -> Result<Line, Fault> {
+fn read<'a>(line: &[u8], buffer: &'a mut [u8; 256]) -> Result<Line<'a>, Fault> {
     let [b'S', digit, pairs @ ..] = line else {
         return Err(Fault::Shape);
     };
@@ -77,16 +112,15 @@ fn read(line: &[u8]) -> Result<Line, Fault> {
         b'9' => (Kind::End, 2),
         _ => return Err(Fault::Shape),
     };
-    let mut buffer = [0; 256];
-    let bytes = decode(pairs, &mut buffer).ok_or(Fault::Shape)?;
+    let bytes = decode(pairs, buffer).ok_or(Fault::Shape)?;
     let [count, rest @ ..] = bytes else {
         return Err(Fault::Shape);
     };
     if usize::from(*count) != rest.len() || rest.len() < address_len + 1 {
         return Err(Fault::Shape);
     }
-    let data_len = rest.len() - address_len - 1;
-    if data_len > 0 && matches!(kind, Kind::Count | Kind::End) {
+    let data = &rest[address_len..rest.len() - 1];
+    if !data.is_empty() && matches!(kind, Kind::Count | Kind::End) {
         return Err(Fault::Shape);
     }
     if bytes.iter().fold(0u8, |sum, b| sum.wrapping_add(*b)) != 255 {
@@ -98,7 +132,7 @@ fn read(line: &[u8]) -> Result<Line, Fault> {
     Ok(Line {
         kind,
         address,
-        data_len,
+        data,
     })
 }
 
@@ -151,12 +185,11 @@ impl Checker {
         }
     }
 
-    fn line(&mut self, line: &[u8]) -> Result<(), Fault> {
-        let line = read(line)?;
+    fn line(&mut self, line: &Line<'_>) -> Result<(), Fault> {
         self.phase = match (self.phase, line.kind) {
             (Phase::Start, Kind::Header) => Phase::Body,
             (Phase::Start | Phase::Body, Kind::Data) => {
-                self.data(&line)?;
+                self.data(line)?;
                 Phase::Body
             }
             (Phase::Start | Phase::Body, Kind::Count) if line.address == self.data_lines => {
@@ -169,19 +202,19 @@ impl Checker {
         Ok(())
     }
 
-    fn data(&mut self, line: &Line) -> Result<(), Fault> {
+    fn data(&mut self, line: &Line<'_>) -> Result<(), Fault> {
         self.data_lines += 1;
-        if line.data_len == 0 {
+        if line.data.is_empty() {
             return Ok(());
         }
-        if line.data_len % self.width != 0 {
+        if line.data.len() % self.width != 0 {
             return Err(Fault::NotWhole);
         }
         let start = u64::from(line.address);
         if self.end.is_some_and(|end| start < end) {
             return Err(Fault::NotRising);
         }
-        self.end = Some(start + (line.data_len / self.width) as u64);
+        self.end = Some(start + (line.data.len() / self.width) as u64);
         Ok(())
     }
 

@@ -1,1 +1,2 @@
 mod Exchanges
+mod Told

@@ -1,1 +1,2 @@
+pub mod Load
 pub mod Replay

@@ -1,16 +1,18 @@
 #![tactic(auto)]
 
-// The file check, the CRC, the seal and the bootloader for callers in C and in Rust.
+// The file check, the CRC, the seal, the bootloader and the loader for callers in C and in Rust.
 ghost use Rattle.std.specs.Prelude.{◌≡◌};
 ghost use Rattle.loader.specs.Verdict.{outcome_of, verdict};
 
 mod crc;
+mod load;
 mod replay;
 mod seal;
 #[cfg(test)]
 mod tests;
 
 pub use crc::kochalluq_crc;
+pub use load::kochalluq_load;
 use loader::{check_file, outcome};
 pub use replay::{Plan, kochalluq_replay};
 pub use seal::{kochalluq_crossed_seal, kochalluq_seal};

@@ -24,10 +24,10 @@ pub struct Plan {
     pub eeprom: usize,
 }
 
-type BlankBoard = Bootloader<Crossing<Flash>, Eeprom, Eeprom>;
+pub(crate) type BlankBoard = Bootloader<Crossing<Flash>, Eeprom, Eeprom>;
 
 // Makes a board after a plan, with blank memories and a crossed flash.
-fn blank_board(heap: Global, plan: &Plan) -> Result<BlankBoard, AllocError>
+pub(crate) fn blank_board(heap: Global, plan: &Plan) -> Result<BlankBoard, AllocError>
     ensures { IfOk result (λ b. ⟦<BlankBoard as Device>⟧.board b ≡ blank_board plan.now) }
 {
     let setup = Setup {
