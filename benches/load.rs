@@ -16,36 +16,22 @@ mod lines;
 mod loader;
 mod parts;
 mod plain;
+mod plan;
 mod random;
 
-use board::{Board, FRAME_ID};
+use board::FRAME_ID;
 use crc::eight_by_eight;
 use lines::{Line, change_lines, change_text, join, small_lines};
 use loader::{Link, Wire};
 use parts::{Crossing, Eeprom, Flash, Part};
+use plan::{PlainBoard, Plan};
 use random::Random;
 use std::hint::black_box;
 use std::process::ExitCode;
 
 type Frame = [u8; 8];
 
-type PlainBoard = Board<Crossing<Flash>, Eeprom, Eeprom>;
-
 type PlainWire = Wire<Crossing<Flash>, Eeprom, Eeprom>;
-
-/// A board with blank memories and a crossed flash: the base and the length of the flash, its sectors and the words
-/// of each, and the lengths of the EEPROMs.
-#[repr(C)]
-#[derive(Clone, Copy, Debug)]
-struct Plan {
-    base: u32,
-    part_id: u16,
-    flash: usize,
-    sectors: usize,
-    words: usize,
-    boot: usize,
-    eeprom: usize,
-}
 
 unsafe extern "C" {
     fn kochalluq_load(
@@ -97,18 +83,12 @@ impl Plan {
         }
         plan
     }
+}
 
-    fn plain(&self) -> PlainWire {
-        let flash = Flash::new(vec![0xFF; self.flash], self.sectors, self.words);
-        Wire {
-            board: Board::new(
-                self.base,
-                self.part_id,
-                Crossing::new(flash),
-                Eeprom::new(vec![0xFF; self.boot]),
-                Eeprom::new(vec![0xFF; self.eeprom]),
-            ),
-        }
+/// A plain board at the far end of a wire.
+fn wire(plan: &Plan) -> PlainWire {
+    Wire {
+        board: plan.plain(),
     }
 }
 
@@ -204,7 +184,7 @@ fn file(bytes: usize, line: usize) -> Vec<u8> {
 /// All three loads of one text: what is told, or an error where they differ.
 fn all(plan: &Plan, text: &[u8], target: u8, size: u64) -> Result<Told, String> {
     let proved = measured_proved(plan, text, target, size).ok_or("no memory for a board")?;
-    let (mut plain, mut kept) = (plan.plain(), plan.plain());
+    let (mut plain, mut kept) = (wire(plan), wire(plan));
     let plain = (
         measured_plain(&mut plain, text, target, size),
         flash_crc(&plain.board),
@@ -285,7 +265,7 @@ fn compare() -> Result<(), String> {
 /// The frames of a load.
 fn frames_of(text: &[u8]) -> Vec<Frame> {
     let mut traced = Traced {
-        wire: Plan::full().plain(),
+        wire: wire(&Plan::full()),
         frames: Vec::new(),
     };
     loader::load(&mut traced, text, 0, 0);
@@ -299,12 +279,12 @@ fn measure(mode: &str, bytes: usize, line: usize) -> Result<(), String> {
     let outcome = match mode {
         "proved" => measured_proved(&plan, &text, 0, 0).map(|(numbers, _)| numbers[0]),
         "made" => measured_made(&plan).map(|_| 0),
-        "plain" => Some(measured_plain(&mut plan.plain(), &text, 0, 0)[0]),
-        "kept" => Some(measured_kept(&mut plan.plain(), &text, 0, 0)[0]),
+        "plain" => Some(measured_plain(&mut wire(&plan), &text, 0, 0)[0]),
+        "kept" => Some(measured_kept(&mut wire(&plan), &text, 0, 0)[0]),
         "replayed" => measured_replayed(&plan, &mut frames_of(&text)).then_some(0),
         "blank" => measured_blank(&plan).then_some(0),
         "answered" => {
-            measured_answered(&mut plan.plain().board, &mut frames_of(&text));
+            measured_answered(&mut plan.plain(), &mut frames_of(&text));
             Some(0)
         }
         "frames" => {

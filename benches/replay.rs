@@ -9,11 +9,12 @@
 mod board;
 mod crc;
 mod parts;
+mod plan;
 mod random;
 
-use board::{Board, FRAME_ID};
+use board::FRAME_ID;
 use crc::eight_by_eight;
-use parts::{Crossing, Eeprom, Flash};
+use plan::{PlainBoard, Plan};
 use random::Random;
 use std::collections::BTreeMap;
 use std::hint::black_box;
@@ -21,25 +22,9 @@ use std::process::ExitCode;
 
 type Frame = [u8; 8];
 
-/// A board with blank memories and a crossed flash: the base and the length of the flash, its sectors and the words
-/// of each, and the lengths of the EEPROMs.
-#[repr(C)]
-#[derive(Clone, Copy, Debug)]
-struct Plan {
-    base: u32,
-    part_id: u16,
-    flash: usize,
-    sectors: usize,
-    words: usize,
-    boot: usize,
-    eeprom: usize,
-}
-
 unsafe extern "C" {
     fn kochalluq_replay(plan: &Plan, frames: *mut Frame, count: usize) -> bool;
 }
-
-type PlainBoard = Board<Crossing<Flash>, Eeprom, Eeprom>;
 
 impl Plan {
     fn full() -> Plan {
@@ -67,17 +52,6 @@ impl Plan {
             boot: [0, 1, 2, 3, 64, 300][random.below(6)],
             eeprom: [0, 1, 2, 64, 300][random.below(5)],
         }
-    }
-
-    fn plain(&self) -> PlainBoard {
-        let flash = Flash::new(vec![0xFF; self.flash], self.sectors, self.words);
-        Board::new(
-            self.base,
-            self.part_id,
-            Crossing::new(flash),
-            Eeprom::new(vec![0xFF; self.boot]),
-            Eeprom::new(vec![0xFF; self.eeprom]),
-        )
     }
 }
 
