@@ -3,65 +3,27 @@ ghost use Rattle.std.specs.Prelude.{◌≡◌, ℕ, ◌%◌, ◌≤◌, length, 
 ghost use Rattle.std.specs.Option.{option_map};
 ghost use Rattle.srecord.specs.Hex.{Follows, digit_value, pair_value, pairs_in, bytes_of, number as number_of};
 
-// The values of the digits, named so that the table below is laid out in rows.
-const D0: Option<u8> = Some(0);
-
-const D1: Option<u8> = Some(1);
-
-const D2: Option<u8> = Some(2);
-
-const D3: Option<u8> = Some(3);
-
-const D4: Option<u8> = Some(4);
-
-const D5: Option<u8> = Some(5);
-
-const D6: Option<u8> = Some(6);
-
-const D7: Option<u8> = Some(7);
-
-const D8: Option<u8> = Some(8);
-
-const D9: Option<u8> = Some(9);
-
-const DA: Option<u8> = Some(10);
-
-const DB: Option<u8> = Some(11);
-
-const DC: Option<u8> = Some(12);
-
-const DD: Option<u8> = Some(13);
-
-const DE: Option<u8> = Some(14);
-
-const DF: Option<u8> = Some(15);
-
-// The value of each character as a hex digit of either case, by its code; none where it is no digit.
-// A `match` in its place makes the file check take 1.7 times the instructions, and 4 times the time.
-static VALUES: [Option<u8>; 256] = [
-    None, None, None, None, None, None, None, None, None, None, None, None, None, None, None, None,
-    None, None, None, None, None, None, None, None, None, None, None, None, None, None, None, None,
-    None, None, None, None, None, None, None, None, None, None, None, None, None, None, None, None,
-    D0, D1, D2, D3, D4, D5, D6, D7, D8, D9, None, None, None, None, None, None, None, DA, DB, DC,
-    DD, DE, DF, None, None, None, None, None, None, None, None, None, None, None, None, None, None,
-    None, None, None, None, None, None, None, None, None, None, None, None, DA, DB, DC, DD, DE, DF,
-    None, None, None, None, None, None, None, None, None, None, None, None, None, None, None, None,
-    None, None, None, None, None, None, None, None, None, None, None, None, None, None, None, None,
-    None, None, None, None, None, None, None, None, None, None, None, None, None, None, None, None,
-    None, None, None, None, None, None, None, None, None, None, None, None, None, None, None, None,
-    None, None, None, None, None, None, None, None, None, None, None, None, None, None, None, None,
-    None, None, None, None, None, None, None, None, None, None, None, None, None, None, None, None,
-    None, None, None, None, None, None, None, None, None, None, None, None, None, None, None, None,
-    None, None, None, None, None, None, None, None, None, None, None, None, None, None, None, None,
-    None, None, None, None, None, None, None, None, None, None, None, None, None, None, None, None,
-    None, None, None, None, None, None, None, None, None,
+// The value of each character as a hex digit of either case, by its code; 16, which no digit has, where it is none.
+static VALUES: [u8; 256] = [
+    16, 16, 16, 16, 16, 16, 16, 16, 16, 16, 16, 16, 16, 16, 16, 16, 16, 16, 16, 16, 16, 16, 16, 16,
+    16, 16, 16, 16, 16, 16, 16, 16, 16, 16, 16, 16, 16, 16, 16, 16, 16, 16, 16, 16, 16, 16, 16, 16,
+    0, 1, 2, 3, 4, 5, 6, 7, 8, 9, 16, 16, 16, 16, 16, 16, 16, 10, 11, 12, 13, 14, 15, 16, 16, 16,
+    16, 16, 16, 16, 16, 16, 16, 16, 16, 16, 16, 16, 16, 16, 16, 16, 16, 16, 16, 16, 16, 16, 16, 10,
+    11, 12, 13, 14, 15, 16, 16, 16, 16, 16, 16, 16, 16, 16, 16, 16, 16, 16, 16, 16, 16, 16, 16, 16,
+    16, 16, 16, 16, 16, 16, 16, 16, 16, 16, 16, 16, 16, 16, 16, 16, 16, 16, 16, 16, 16, 16, 16, 16,
+    16, 16, 16, 16, 16, 16, 16, 16, 16, 16, 16, 16, 16, 16, 16, 16, 16, 16, 16, 16, 16, 16, 16, 16,
+    16, 16, 16, 16, 16, 16, 16, 16, 16, 16, 16, 16, 16, 16, 16, 16, 16, 16, 16, 16, 16, 16, 16, 16,
+    16, 16, 16, 16, 16, 16, 16, 16, 16, 16, 16, 16, 16, 16, 16, 16, 16, 16, 16, 16, 16, 16, 16, 16,
+    16, 16, 16, 16, 16, 16, 16, 16, 16, 16, 16, 16, 16, 16, 16, 16, 16, 16, 16, 16, 16, 16, 16, 16,
+    16, 16, 16, 16, 16, 16, 16, 16, 16, 16, 16, 16, 16, 16,
 ];
 
 // The value of a hex digit of either case; none for another character.
 fn digit(c: u8) -> Option<u8>
     ensures { result ≡ digit_value c }
 {
-    VALUES[usize::from(c)]
+    let value = VALUES[usize::from(c)];
+    (value < 16).then_some(value)
 }
 
 // The byte that two digits spell, high digit first.
@@ -80,6 +42,7 @@ pub(crate) fn pairs(digits: &[u8]) -> Option<&[[u8; 2]]>
 }
 
 // The bytes that the digits spell, taken into a total one by one; none where they are no pairs.
+#[inline(always)]
 fn fold_bytes<S: Copy, F: Fn(S, u8) -> S>(digits: &[u8], start: S, step: F) -> Option<S>
     requires { F.IsAlwaysCallable step }
     ensures { (f : S → ℕ → S) → Follows (F.post step) f → result ≡ option_map (fold f start) (bytes_of digits.now) }
@@ -93,6 +56,7 @@ fn fold_bytes<S: Copy, F: Fn(S, u8) -> S>(digits: &[u8], start: S, step: F) -> O
 }
 
 // The low byte of the sum of the bytes that the digits spell; none where they are no pairs.
+#[inline(always)]
 pub(crate) fn sum(digits: &[u8]) -> Option<u8>
     ensures { result ≡ option_map (λ bs. sum_of bs % 256) (bytes_of digits.now) }
 {
@@ -100,6 +64,7 @@ pub(crate) fn sum(digits: &[u8]) -> Option<u8>
 }
 
 // The number that up to four pairs spell, high byte first; none where they are no pairs.
+#[inline(always)]
 pub(crate) fn number(digits: &[u8]) -> Option<u32>
     requires { length digits.now ≤ 8 }
     ensures { result ≡ option_map number_of (bytes_of digits.now) }

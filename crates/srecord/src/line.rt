@@ -74,6 +74,7 @@ pub fn read_line(line: &[u8]) -> Result<Line<'_>, Fault>
 }
 
 // The line by its mark, type, count, address, data and checksum.
+#[inline(always)]
 pub(crate) fn parse_line(line: &[u8]) -> Result<Line<'_>, Fault>
     ensures { said result ≡ line_of line.now }
 {
@@ -88,6 +89,7 @@ pub(crate) fn parse_line(line: &[u8]) -> Result<Line<'_>, Fault>
 }
 
 // Whether the sum of count, address, data and checksum is 255 modulo 256.
+#[inline(always)]
 fn check_sum(digits: &[u8]) -> Result<(), Fault>
     ensures { result ≡ checked (bytes_of digits.now) }
 {

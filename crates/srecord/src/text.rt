@@ -6,6 +6,7 @@ use crate::hex::pair;
 use crate::line::{Fault, Line, parse_line};
 
 // The first line of a text that is not empty, read, and what follows it; or its fault.
+#[inline(always)]
 pub(crate) fn first_line(text: &[u8]) -> Result<(Line<'_>, &[u8]), Fault>
     requires { 0 < length text.now }
     ensures { ReadsFirst text.now result }

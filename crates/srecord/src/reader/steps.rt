@@ -22,6 +22,7 @@ impl<'a> Reader<'a> {
 
     // The next data record, none where the text has ended well, or the first fault; none and a fault
     // are answered again whenever they are asked for again.
+    #[inline(always)]
     pub fn next_record(&mut self) -> Result<Option<Record<'a>>, FaultAt>
         ensures answer { answered result ≡ next_of (coming self.old) }
         ensures after { coming self.new ≡ rest_of (coming self.old) }
@@ -48,6 +49,7 @@ impl<'a> Reader<'a> {
     }
 
     // Reads one line, and hands out its record if it is a data line.
+    #[inline(always)]
     fn read_line(&mut self) -> Result<Option<Record<'a>>, Fault>
         requires { 0 < length self.old.rest.now }
         ensures { ReadsOne self.old result self.new }
@@ -72,7 +74,7 @@ impl<'a> Reader<'a> {
 
     // How many data lines there are with one line more.
     fn records_with(&self, line: Line<'_>) -> usize
-        requires { 0 < length self.now.rest.now }
+        requires { self.now.records + 1 < 2 ^ 64 }
         ensures { result ≡ records_with self.now.records (content_of line.entry) }
     {
         match line {
