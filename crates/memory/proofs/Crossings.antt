@@ -1,10 +1,11 @@
 -- Laws of the lane crossing. Assumes nothing.
-use Rattle.std.specs.Prelude.{◌≡◌, ℕ, ◌<◌, ◌≤◌, ◌+◌, ◌-◌, ◌*◌, ◌/◌, ◌%◌, cond, List, length, Ok, Err, ◌==◌, nat_lt, slice_index, slice_set}
-use Rattle.std.proofs.Common.{true, false, Bool, refl, sym, ap, ◌∙◌, arith}
+use Rattle.std.specs.Prelude.{◌≡◌, ℕ, ◌<◌, ◌≤◌, ◌+◌, ◌-◌, ◌*◌, ◌/◌, ◌%◌, cond, ltb, List, length, Ok, Err, ◌==◌, nat_lt, slice_index, slice_set}
+use Rattle.std.proofs.Common.{true, false, Bool, refl, sym, ap, ◌∙◌, inl, inr, arith}
 use Rattle.std.proofs.Math.Nat.{div-div-eq-div-mul}
 use Rattle.std.proofs.lemmas.List.FromFn.{get_or-map-range_with_len}
 use Rattle.std.proofs.lemmas.List.{ext_get_or, length-set, get_or-set_other}
 use Rattle.std.proofs.lemmas.Grind.{get_or-set_at}
+use Rattle.std.proofs.lemmas.Bool.{cases_lt, lt-ltb}
 use Rattle.std.proofs.lemmas.Bool.Decides.{nat_tests}
 use Rattle.memory.specs.declared.refusal.PartRefusal.TheVariants.{Outside, NotTaken}
 use Rattle.memory.specs.Part.{Shape}
@@ -21,8 +22,18 @@ cross_outside n o h = grind (arith, nat_tests)
 pub cross_cross : (n o : ℕ) → crossed n (crossed n o) ≡ o
 cross_cross n o = grind (arith, nat_tests)
 
+pub ltb-cross : (n o : ℕ) → nat_lt (crossed n o) n ≡ nat_lt o n
+ltb-cross n o = elim (cases_lt o n) [
+  | inl h ↦ lt-ltb (crossed n o) n (cross_inside n o h) ∙ sym (lt-ltb o n h)
+  | inr h ↦ ap (λ x. ltb x n) (cross_outside n o h)
+]
+
 pub get_or-crossed : (xs : List ℕ) (o : ℕ) → o < length xs → slice_index (crossed_contents xs) o ≡ slice_index xs (crossed (length xs) o)
 get_or-crossed xs o h = get_or-map-range_with_len (λ k. slice_index xs (crossed (length xs) k)) 0 (length xs) o o 0 h (omega arith)
+
+-- what is known of the bytes at each offset is known of the list
+pub by_places : (xs ys : List ℕ) → length ys ≡ length xs → ((o : ℕ) → o < length xs → slice_index ys o ≡ slice_index xs o) → ys ≡ xs
+by_places xs ys e f = ext_get_or 0 ys xs e (λ o h. f o (omega arith))
 
 pub contents-twice : (xs : List ℕ) → crossed_contents (crossed_contents xs) ≡ xs
 contents-twice xs = ext_get_or 0 _ xs (grind (arith, length-crossed)) (λ k h. grind (arith, get_or-crossed, length-crossed, cross_inside, cross_cross))
@@ -30,7 +41,8 @@ contents-twice xs = ext_get_or 0 _ xs (grind (arith, length-crossed)) (λ k h. g
 shape-twice : (n : ℕ) (s : Shape) → crossed_shape n (crossed_shape n s) ≡ s
 shape-twice n s = λ i. record { units = s.units; unit_of = λ o. s.unit_of (cross_cross n o i); takes = λ o. s.takes (cross_cross n o i) }
 
-same_crossed : (m n : ℕ) (s t : Shape) → m ≡ n → s ≡ t → crossed_shape m s ≡ crossed_shape n t
+-- a part below that keeps its length and its shape gives a crossing that keeps its shape
+pub same_crossed : (m n : ℕ) (s t : Shape) → m ≡ n → s ≡ t → crossed_shape m s ≡ crossed_shape n t
 same_crossed m n s t e h = λ i. crossed_shape (e i) (h i)
 
 pub shapes-twice : (xs : List ℕ) (s : Shape) → crossed_shape (length (crossed_contents xs)) (crossed_shape (length xs) s) ≡ s
@@ -56,8 +68,15 @@ cleared_crossed : (xs : List ℕ) (unit_of : ℕ → ℕ) (u : ℕ) → cleared_
 cleared_crossed xs unit_of u =
     ext_get_or 0 _ _ (grind (arith, length-crossed, length-cleared)) (λ k h. grind (arith, get_or-crossed, length-crossed, get_or-cleared, length-cleared, cross_inside))
 
+pub cond-under : {X Y : Type 0} (f : X → Y) (b : Bool) (x y : X) → f (cond b x y) ≡ cond b (f x) (f y)
+cond-under f true x y = refl
+cond-under f false x y = refl
+
 -- the answers of a crossing are those of the part below, at the offset below
 module _ (xs : List ℕ) (o : ℕ) where
+  pub inside : ltb o (length (crossed_contents xs)) ≡ nat_lt (crossed (length xs) o) (length xs)
+  inside = ap (ltb o) (length-crossed xs) ∙ sym (ltb-cross (length xs) o)
+
   -- an answer that depends on the byte at an offset inside
   at_byte : {X : Type 0} (f : ℕ → X) (e : X) → cond (nat_lt o (length (crossed_contents xs))) (f (slice_index (crossed_contents xs) o)) e ≡ cond (nat_lt (crossed (length xs) o) (length xs)) (f (slice_index xs (crossed (length xs) o))) e
   at_byte f e = grind (arith, nat_tests, get_or-crossed, length-crossed, cross_inside, cross_outside)

@@ -1,5 +1,5 @@
 -- The CRC over bytes that are taken several at a time. Assumes nothing.
-use Rattle.std.proofs.Common.{◌≡◌, ℕ, zero, suc, ◌+◌, ◌*◌, ◌/◌, ◌%◌, ◌<◌, List, [], ◌∷◌, map, length, get_or, take, drop, sym, refl, ap, fold, ◌∙◌, ap₂, arith}
+use Rattle.std.proofs.Common.{◌≡◌, ℕ, zero, suc, ◌+◌, ◌*◌, ◌/◌, ◌%◌, ◌<◌, List, [], ◌∷◌, map, length, get_or, take, drop, sym, refl, ap, fold, ◌∙◌, ap₂, add_comm, arith}
 use lib.Bits.{bit_xor, xor_assoc, xor_comm, xor_shifted, xor_zero_r}
 use Rattle.std.specs.List.{range_with_len}
 use Rattle.std.proofs.iter.runs.Lists.{fold-append}
@@ -31,11 +31,23 @@ four_apart n w x y z =
     one)
 
 -- the value that bytes are continued from can be taken in with the first two, its low half with the first
-pub crc_from-met : (c w x : ℕ) (bs : List ℕ) → c < 65536 → w < 256 → x < 256
+pub crc_from-met : (c w x : ℕ) (bs : List ℕ) → w < 256
+    → crc_from c (w ∷ x ∷ bs) ≡ crc_from 0 (bit_xor c (w + x * 256) % 256 ∷ bit_xor c (w + x * 256) / 256 ∷ bs)
+crc_from-met c w x bs h =
+    let met = bit_xor c (w + x * 256) in
+    ap (λ v. crc_from (crc_bits v) bs)
+    (ap (bit_xor (crc_byte c w)) (sym (crc_bits-high x))
+    ∙ sym (crc_bits-xor (bit_xor c w) (x * 256))
+    ∙ ap crc_bits (xor_assoc c w (x * 256) ∙ ap (bit_xor c) (xor_comm w (x * 256) ∙ xor_shifted x 8 w h ∙ add_comm (x * 256) w))
+    ∙ crc_bits-halves met
+    ∙ xor_comm (met / 256) (crc_bits (met % 256)))
+
+-- the same with the high half as a byte, where the value has 16 bits
+pub crc_from-met_bytes : (c w x : ℕ) (bs : List ℕ) → c < 65536 → w < 256 → x < 256
     → crc_from c (w ∷ x ∷ bs) ≡ crc_from 0 (bit_xor c (w + x * 256) % 256 ∷ bit_xor c (w + x * 256) / 256 % 256 ∷ bs)
-crc_from-met c w x bs g h k =
+crc_from-met_bytes c w x bs g h k =
     let small : bit_xor c (w + x * 256) < 65536 = xor_lt 16 c (w + x * 256) g (omega arith) in
-    grind (arith, crc_bits-high x, crc_bits-xor (bit_xor c w) (x * 256), crc_bits-halves (bit_xor c (w + x * 256)), xor_assoc, xor_comm, xor_shifted x 8 w h)
+    crc_from-met c w x bs h ∙ ap (λ v. crc_from 0 (bit_xor c (w + x * 256) % 256 ∷ v ∷ bs)) (omega (arith, small))
 
 -- the CRC over eight bytes, from that of each four apart
 module _ (c : ℕ) (xs : List ℕ) where
@@ -50,7 +62,7 @@ module _ (c : ℕ) (xs : List ℕ) where
       → bit_xor (crc_zeros 4 (crc_from 0 (met % 256 ∷ met / 256 % 256 ∷ get_or xs 2 0 ∷ get_or xs 3 0 ∷ []))) (crc_from 0 (get_or xs 4 0 ∷ get_or xs 5 0 ∷ get_or xs 6 0 ∷ get_or xs 7 0 ∷ [])) ≡ crc_from c xs
   unfolding span
   crc_from-eight g h k e =
-      ap (λ v. bit_xor (crc_zeros 4 v) (crc_from 0 (span 4 4))) (sym (crc_from-met c (get_or xs 0 0) (get_or xs 1 0) (span 2 2) g h k))
+      ap (λ v. bit_xor (crc_zeros 4 v) (crc_from 0 (span 4 4))) (sym (crc_from-met_bytes c (get_or xs 0 0) (get_or xs 1 0) (span 2 2) g h k))
       ∙ sym (crc_from-zeros (crc_from c (span 0 4)) (span 4 4)) ∙ ap (crc_from c) (sym (fill_by_all (λ k. get_or xs k 0) xs 8 0 e (λ k l. refl)))
 
 -- the CRC over the first k chunks of n bytes in turn, and then over the bytes after them

@@ -22,6 +22,13 @@ pub trait ReadablePart {
     // the bytes, from offset 0 on
     ghost contents: { Self → List ℕ };
 
+    // BYTES_PER_ADDRESS, for callers who want a function
+    fn address_width() -> usize
+        ensures { result ≡ BYTES_PER_ADDRESS }
+    {
+        Self::BYTES_PER_ADDRESS
+    }
+
     fn len(&self) -> usize
         ensures { result ≡ length (contents self.now) };
 
