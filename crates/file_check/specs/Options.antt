@@ -42,6 +42,7 @@ pub record Settings : Type 0 where
 pub record Asked : Type 0 where
   pub quiet : Bool
   pub target : Target
+  pub size : Option ℕ
   pub file : List ℕ
 
 -- help, or a check
@@ -105,10 +106,10 @@ target_for Data (Some n) = Ok (target.Data n)
 target_for Data None = Err (size_wanted Data)
 
 -- the check that is asked for, unless a size is wanting; without a file the text is standard input,
--- whose name is a dash
+-- whose name is a dash; a size that was told stays told, for flash too
 abbrev pub asked : Settings → Result Meaning Wrong
 asked s =
-    result_map_both (λ t. check_asked (record { quiet = s.quiet; target = t; file = unwrap_or s.file (codes "-") })) (λ e. e) (target_for s.target s.size)
+    result_map_both (λ t. check_asked (record { quiet = s.quiet; target = t; size = s.size; file = unwrap_or s.file (codes "-") })) (λ e. e) (target_for s.target s.size)
 
 -- what is asked for at the end of the words, by what was to come
 abbrev pub ended : Next → Settings → Result Meaning Wrong
@@ -149,7 +150,7 @@ wrong_by (lent.SizeWanted t) = size_wanted t
 -- a command that the code answered, with its words as lists
 abbrev pub meant_by : Command → Meaning
 meant_by Help = help_asked
-meant_by (Check o) = check_asked (record { quiet = o.quiet; target = o.target; file = o.file.now })
+meant_by (Check o) = check_asked (record { quiet = o.quiet; target = o.target; size = o.size; file = o.file.now })
 
 -- the value or the misuse that the code answered
 abbrev pub read_by : {A : Type 0} → Result A Misuse → Result A Wrong

@@ -54,6 +54,7 @@ fn check_text<'a>(rt: &HostRuntime, options: Options<'a>) -> Result<(), Failure<
         quiet,
         target,
         file,
+        ..
     } = options;
     let text = read_text(rt, file).map_err(|error| Failure::Text(file, error))?;
     let text = text.as_slice();

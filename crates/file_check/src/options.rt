@@ -16,6 +16,8 @@ pub const STANDARD_INPUT: &str = "-";
 pub struct Options<'a> {
     pub quiet: bool,
     pub target: Target,
+    // the size that was told; of no account for flash
+    pub size: Option<u64>,
     pub file: &'a str,
 }
 
@@ -112,6 +114,7 @@ impl<'a> Parse<'a> {
         Ok(Command::Check(Options {
             quiet: self.quiet,
             target,
+            size: self.size,
             file: self.file.unwrap_or(STANDARD_INPUT),
         }))
     }
