@@ -8,9 +8,13 @@ use std::alloc::{AllocError, Global};
 pub fn read_all<P: ReadablePart>(heap: Global, part: &P) -> Result<Vec<u8>, AllocError>
     ensures { IfOk result (λ v. v.items ≡ P.contents part.now) }
 {
-    (0..part.len())
-        .map(|offset| byte_at(part, offset))
-        .collect(heap)
+    let len = part.len();
+    let mut bytes = Vec::with_capacity(heap, len)?;
+    // Not a `collect`, which takes up to three times the time over a crossing.
+    for offset in 0..len {
+        bytes.push_reserved(byte_at(part, offset));
+    }
+    Ok(bytes)
 }
 
 // The byte at an offset inside a part.
