@@ -10,7 +10,7 @@ pub fn read_all<P: ReadablePart>(heap: Global, part: &P) -> Result<Vec<u8>, Allo
 {
     let len = part.len();
     let mut bytes = Vec::with_capacity(heap, len)?;
-    // Not a `collect`, which takes up to three times the time over a crossing.
+    // Not a `collect`: in some callers that takes fifty times as long over a flash.
     for offset in 0..len {
         bytes.push_reserved(byte_at(part, offset));
     }

@@ -228,20 +228,28 @@ const EEPROMS: [(usize, usize); 4] = [
 
 #[test]
 fn sizes(rt: HostRuntime) -> Result<(), Fail> {
+    let heap = rt.alloc();
     for (buffer, sectors, words, len, units) in FLASHES {
-        let mut flash = Flash::new(Vec::from_elem(rt.alloc(), 0, buffer)?, sectors, words);
-        check_size(&rt, &mut flash, len, units);
+        let mut flash = Flash::new(Vec::from_elem(heap, 0, buffer)?, sectors, words);
+        check_size(&rt, heap, &mut flash, len, units)?;
     }
     for (buffer, len) in EEPROMS {
-        let mut eeprom = Eeprom::new(Vec::from_elem(rt.alloc(), 0, buffer)?);
-        check_size(&rt, &mut eeprom, len, 1);
+        let mut eeprom = Eeprom::new(Vec::from_elem(heap, 0, buffer)?);
+        check_size(&rt, heap, &mut eeprom, len, 1)?;
     }
     Ok(())
 }
 
-// A part whose bytes are 0, by its answers at the last offset and unit and past them.
-fn check_size<P: WritablePart>(rt: &impl Abort, part: &mut P, len: usize, units: usize) {
+// A part whose bytes are 0, by its bytes and its answers at the last offset and unit and past them.
+fn check_size<P: WritablePart>(
+    rt: &impl Abort,
+    heap: Global,
+    part: &mut P,
+    len: usize,
+    units: usize,
+) -> Result<(), Fail> {
     assert_eq!(rt; (part.len(), part.units()), (len, units));
+    assert_eq!(rt; read_all(heap, part)?, Vec::from_elem(heap, 0, len)?);
     if let Some(last) = len.checked_sub(1) {
         assert_eq!(rt; part.read(last), Ok(0));
     }
@@ -254,6 +262,7 @@ fn check_size<P: WritablePart>(rt: &impl Abort, part: &mut P, len: usize, units:
         // The last unit is the lowest.
         assert_eq!(rt; part.read(0), Ok(0xFF));
     }
+    Ok(())
 }
 
 #[test]
